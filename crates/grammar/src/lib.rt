@@ -1,0 +1,1 @@
+// The command language as relations (specs/), and that the rules' reader accepts exactly it (proofs/).
