@@ -1,4 +1,4 @@
--- Tokens to a command: the reader accepts what the grammar relates, and no more.
+-- Tokens to a command, both ways: phrases are split exactly at the separators that do not stand inside them.
 use Rattle.laws.specs.Cases.{Always}
 use Prim.Native.Nat.{ℕ, zero, suc, _+_, _*_, _≤_, _<_}
 use mathlib.Core.Path.{_≡_, refl, sym, ap, ap₂, _∙_, subst}

@@ -1,4 +1,4 @@
--- The reader accepts exactly what the grammar relates.
+-- The reader accepts exactly what the grammar derives: text to tokens and tokens to tree, each both ways.
 use Prim.Native.Nat.{ℕ, _+_, _≤_}
 use mathlib.Core.Path.{_≡_, refl, sym, ap, _∙_, subst}
 use mathlib.Core.List.{List, [], _∷_, map}

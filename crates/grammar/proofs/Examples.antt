@@ -1,4 +1,4 @@
--- A few lines held against the grammar itself.
+-- A few lines held against the grammar itself, through its exactness.
 use Prim.Native.Nat.{ℕ}
 use mathlib.Core.Path.{_≡_, refl}
 use mathlib.Core.Bool.{Bool, true, false}

@@ -1,4 +1,4 @@
--- A text that spells tokens is scanned to them.
+-- A text that spells tokens is scanned to them: format effectors leave every outer state, and each token's bytes end in `idle`.
 use Prim.Native.Nat.{ℕ, zero, suc, _+_, _≤_, _<_}
 use mathlib.Core.Path.{_≡_, refl, sym, ap, ap₂, _∙_, subst}
 use mathlib.Core.Bool.{Bool, true, false, cond, _&&_, _||_, not, false≢true}

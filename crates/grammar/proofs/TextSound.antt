@@ -1,4 +1,4 @@
--- A text's tokens: the scanner accepts what the grammar relates, and no more.
+-- What the scan accepts, the grammar derives: each state of the automaton stands for marks already seen.
 use Rattle.laws.specs.Cases.{Always}
 use Prim.Native.Nat.{ℕ, zero, suc, _+_, _≤_, _<_}
 use mathlib.Core.Path.{_≡_, refl, sym, ap, ap₂, _∙_, subst}

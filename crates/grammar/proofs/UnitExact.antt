@@ -1,4 +1,4 @@
--- A unit: the reader accepts what the grammar relates, and no more.
+-- A unit, both ways: rules 1 to 4 are tried in the order in which their constructors exclude each other.
 use Prim.Native.Nat.{ℕ, zero, suc, _+_, _*_, _≤_}
 use mathlib.Core.Path.{_≡_, refl, sym, ap, _∙_, subst}
 use mathlib.Core.Bool.{Bool, true, false, cond, _&&_, _||_, not, false≢true}

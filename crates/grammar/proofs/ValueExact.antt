@@ -1,4 +1,4 @@
--- A value: the reader accepts what the grammar relates, and no more.
+-- A value, both ways, through the list of its (separator, unit) pairs.
 use Rattle.laws.specs.Cases.{Always}
 use Prim.Native.Nat.{ℕ, zero, suc, _+_, _≤_, _<_}
 use mathlib.Core.Path.{_≡_, refl, sym, ap, ap₂, _∙_, subst}

@@ -1,4 +1,4 @@
--- A word's characters: the scanner's test says what the grammar's do.
+-- A word's characters: the scan's test says what the grammar's two tests say, by induction along the word.
 use Prim.Native.Nat.{ℕ}
 use mathlib.Core.Path.{_≡_, refl, sym, ap, _∙_, subst}
 use mathlib.Core.Bool.{Bool, true, false, _&&_, _||_, not, false≢true}

@@ -1,4 +1,4 @@
--- A command's tokens, read, give the command back.
+-- A command's tokens, read, give the command back: joined lists split where they were joined, since no separator of a level stands inside a piece of it.
 use Prim.Native.Nat.{ℕ, zero, suc, _+_, _*_, _≤_, _<_}
 use mathlib.Core.Path.{_≡_, refl, sym, ap, ap₂, _∙_}
 use mathlib.Core.Bool.{Bool, true, false, _&&_, not, false≢true}
@@ -21,6 +21,9 @@ use Rattle.rules.specs.Units.{rD, Base, plain, Unit, num, keyed, identif
 use Rattle.rules.specs.WellFormed.{wfUnit, wfValue, short, wfPieces, wfPlace, wfBlock, wellFormed}
 use Rattle.rules.proofs.Counts.{count-pos}
 use Rattle.rules.proofs.ValueBack.{hd, tl, toks, value-back, linkOk, inner-ok, rest-ok, v-elem, v-rest}
+
+-- the parts of a conjunction
+ruleset parts = (and-l, and-r, leb-true)
 
 abbrev pub pastL : List Lex → List ℕ → List ℕ
 pastL [] ps = ps
@@ -178,20 +181,14 @@ cut-place false (place b (w ∷ ws) v) ps h = absurd (false≢true h)
 
 -- what `wordsOk` says
 module _ (g : List ℕ → Bool) (most : ℕ) (w : List ℕ) (ws : List (List ℕ)) (h : wfPieces g most (w ∷ ws) ≡ true) where
-  pub w3 : isIdentifier w && all g ws && leb (length ws) most ≡ true
-  w3 = and-l (isIdentifier w && all g ws && leb (length ws) most) (all short (w ∷ ws)) h
-
-  pub w2 : isIdentifier w && all g ws ≡ true
-  w2 = and-l (isIdentifier w && all g ws) (leb (length ws) most) w3
-
   pub w-first : isIdentifier w ≡ true
-  w-first = and-l (isIdentifier w) (all g ws) w2
+  w-first = search parts
 
   pub w-more : all g ws ≡ true
-  w-more = and-r (isIdentifier w) (all g ws) w2
+  w-more = search parts
 
   pub w-most : length ws ≤ most
-  w-most = leb-true (length ws) most (and-r (isIdentifier w && all g ws) (leb (length ws) most) w3)
+  w-most = search parts
 
 pub place-back : (k : Bool) (bs : List Base) (n : ℕ) (p : Place) (ps : List ℕ) (e : ℕ) → wfPlace k p ≡ true → n < 32 → getD bs n (plain rD) ≡ placeBase p
     → PlaceBack k bs n (seg (toks ps (placeLex p)) e) p
@@ -343,30 +340,20 @@ runningB-ok m (placedBlock k ps ∷ xs) h =
 
 -- what `wf` says
 module _ (c : List (List ℕ)) (bs : List Block) (h : wellFormed (command c bs) ≡ true) where
-  pub c4 : wfPieces isIdentifier 2 c && leb (length bs) 8 && all wfBlock bs && leb (length (allPlaces bs)) 32 ≡ true
-  c4 = and-l (wfPieces isIdentifier 2 c && leb (length bs) 8 && all wfBlock bs && leb (length (allPlaces bs)) 32) (leb (mult (map placeCount (allPlaces bs))) 65535) h
-
-  pub c3 : wfPieces isIdentifier 2 c && leb (length bs) 8 && all wfBlock bs ≡ true
-  c3 = and-l (wfPieces isIdentifier 2 c && leb (length bs) 8 && all wfBlock bs) (leb (length (allPlaces bs)) 32) c4
-
-  pub c2 : wfPieces isIdentifier 2 c && leb (length bs) 8 ≡ true
-  c2 = and-l (wfPieces isIdentifier 2 c && leb (length bs) 8) (all wfBlock bs) c3
-
   pub c-code : wfPieces isIdentifier 2 c ≡ true
-  c-code = and-l (wfPieces isIdentifier 2 c) (leb (length bs) 8) c2
+  c-code = search parts
 
   pub c-few : length bs ≤ 8
-  c-few = leb-true (length bs) 8 (and-r (wfPieces isIdentifier 2 c) (leb (length bs) 8) c2)
+  c-few = search parts
 
   pub c-blocks : all wfBlock bs ≡ true
-  c-blocks = and-r (wfPieces isIdentifier 2 c && leb (length bs) 8) (all wfBlock bs) c3
+  c-blocks = search parts
 
   pub c-places : length (allPlaces bs) ≤ 32
-  c-places = leb-true (length (allPlaces bs)) 32 (and-r (wfPieces isIdentifier 2 c && leb (length bs) 8 && all wfBlock bs) (leb (length (allPlaces bs)) 32) c4)
+  c-places = search parts
 
   pub c-count : mult (map placeCount (allPlaces bs)) ≤ 65535
-  c-count = leb-true (mult (map placeCount (allPlaces bs))) 65535
-      (and-r (wfPieces isIdentifier 2 c && leb (length bs) 8 && all wfBlock bs && leb (length (allPlaces bs)) 32) (leb (mult (map placeCount (allPlaces bs))) 65535) h)
+  c-count = search parts
 
 pub segs-back : (base : List Base) (w : List ℕ) (ws : List (List ℕ)) (bs : List Block) (ps : List ℕ) (e : ℕ) → wellFormed (command (w ∷ ws) bs) ≡ true → Along base 0 (basesOf bs)
     → readSegs base (segs colon e ps (piecesLex (w ∷ ws)) (map blockLex bs)) ≡ ok (command (w ∷ ws) bs)

@@ -1,4 +1,4 @@
--- The record of a well-formed command, decoded, is the command.
+-- The record of a well-formed command, decoded, is the command: its bytes cut into its fields, and folding them from the last back rebuilds each level.
 use Prim.Native.Nat.{ℕ, suc, _+_, _*_, _/_, _%_, _^_}
 use mathlib.Core.Path.{_≡_, refl, ap, _∙_}
 use mathlib.Core.Bool.{Bool, true, false, _&&_, not}

@@ -1,4 +1,4 @@
--- The printed text is never longer than the command that was read.
+-- The printed text is never longer than the command that was read: each pass of the reader keeps a weight, and the printer writes no more than the last.
 use Prim.Native.Nat.{ℕ, zero, suc, _+_, _-_, _≤_}
 use mathlib.Core.Path.{_≡_, ap, _∙_}
 use mathlib.Core.Bool.{Bool, true, false, false≢true, Bool·beq}

@@ -1,4 +1,4 @@
--- A command that the reader accepts is well formed.
+-- A command that the reader accepts is well formed: each step that succeeds has passed the test that well-formedness asks.
 use Prim.Native.Nat.{ℕ, zero, suc, _+_, _*_, _≤_, _<_}
 use mathlib.Core.Path.{_≡_, refl, sym, ap, _∙_, subst}
 use mathlib.Core.Bool.{Bool, true, false, _&&_, not, Bool·beq}
@@ -26,8 +26,6 @@ use Rattle.rules.proofs.ScanSound.{scan-ok}
 use Rattle.rules.proofs.UnitBack.{ident-alnum, no-mark}
 use Rattle.rules.proofs.UnitSound.{plain-most}
 use Rattle.rules.proofs.ValueSound.{okToken, value-wf}
-
-ruleset parts = (and-l, and-r, leb-true, eqb-true)
 
 -- ---- cutting keeps the tokens
 

@@ -1,4 +1,4 @@
--- The tokens of a well-formed command are told apart, and their bytes are permitted.
+-- What is printed of a well-formed command is read back to it: its tokens' texts are told apart by what follows them, so the scan gives the tokens back.
 use Prim.Native.Nat.{ℕ, zero, suc, _+_, _/_, _^_, _≤_, _<_}
 use mathlib.Core.Path.{_≡_, refl, sym, ap, ap₂, _∙_}
 use mathlib.Core.Bool.{Bool, true, false, cond, _&&_, _||_, not, false≢true}

@@ -1,4 +1,4 @@
--- Scanning the text of a token list gives the list back, where neighbours are told apart.
+-- Scanning the text of a token list gives the list back, where neighbours are told apart: the automaton from `idle` over one token's text emits it and is idle.
 use Prim.Native.Nat.{ℕ, suc, _+_}
 use mathlib.Core.Path.{_≡_, refl, sym, ap, _∙_}
 use mathlib.Core.Bool.{Bool, true, false, cond, _&&_, not, false≢true}

@@ -1,4 +1,4 @@
--- The tokens that a scan gives are no longer, written out, than the bytes scanned.
+-- The tokens that a scan gives are no longer, written out, than the bytes scanned: each step of the automaton owes at most one byte more.
 use Prim.Native.Nat.{ℕ, suc, _+_, _≤_}
 use mathlib.Core.Path.{_≡_, refl, _∙_}
 use mathlib.Core.List.{List, [], _∷_, _++_, reverse, reverseAux}

@@ -1,4 +1,4 @@
--- What the reader accepts is well formed.
+-- The scan gives only tokens that the printer could have written: what a state has read is a word without `++`, or permitted bytes.
 use Prim.Native.Nat.{ℕ, suc}
 use mathlib.Core.Path.{_≡_, refl, sym, subst}
 use mathlib.Core.Bool.{Bool, true, false, false≢true}
@@ -14,8 +14,6 @@ use Rattle.rules.specs.Tokens.{plusplus, word, sep, Token, at, State, id
 use Rattle.rules.proofs.ResultLaws.{ok-inj, ok≢bad, bind-ok}
 use Rattle.rules.proofs.ScanBack.{okLex}
 use Rattle.rules.proofs.ValueSound.{okToken}
-
-ruleset parts = (and-l, and-r, leb-true, eqb-true)
 
 -- ---- the scanner's tokens
 

@@ -1,4 +1,4 @@
--- An order has itself as its sole order.
+-- An order has itself as its sole order: one argument's list is itself, and a product of one-member lists has one member.
 use Prim.Native.Nat.{ℕ, _-_, _%_}
 use mathlib.Core.Path.{_≡_, refl}
 use mathlib.Core.List.{List, [], _∷_, map}

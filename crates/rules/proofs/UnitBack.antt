@@ -1,4 +1,4 @@
--- A unit's text, read under its place's base, gives the unit back.
+-- A unit's text, read under its place's base, gives the unit back: digits written are digits read, once over the base.
 use Prim.Native.Nat.{ℕ, zero, suc, _+_, _*_, _/_, _%_, _^_, _≤_, _<_}
 use mathlib.Core.Path.{_≡_, refl, sym, ap, _∙_}
 use mathlib.Core.Bool.{Bool, true, false, _&&_, _||_, not, false≢true}

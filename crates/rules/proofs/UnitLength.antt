@@ -1,4 +1,4 @@
--- A unit's printed text is no longer than the word it was read from.
+-- A unit's printed text is no longer than the word it was read from: a value below base^n has at most n digits.
 use Prim.Native.Nat.{ℕ, suc, _+_, _*_, _/_, _^_, _≤_, _<_}
 use mathlib.Core.Path.{_≡_, refl, sym, _∙_}
 use mathlib.Core.Bool.{Bool, true, false, _&&_, not, false≢true}

@@ -1,4 +1,4 @@
--- What the reader accepts is well formed: a unit. (Inversion of a reader with refusals.)
+-- A unit that the reader accepts is well formed under its base: the rules' tests, one after the other, are those of `wfUnit`.
 use Prim.Native.Nat.{ℕ, zero, suc, _≤_}
 use mathlib.Core.Path.{_≡_, refl, sym, _∙_}
 use mathlib.Core.Bool.{Bool, true, false, _&&_, _||_, false≢true}

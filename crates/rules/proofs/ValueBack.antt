@@ -1,4 +1,4 @@
--- The tokens of a value, read under its place's base, give the value back. Token places are arbitrary: a supply ps.
+-- The tokens of a value, read under its place's base, give the value back, pass by pass. Places do not matter, so they are any supply ps.
 use Prim.Native.Nat.{ℕ, suc, _+_, _≤_, _*_, _/_, _%_, _^_}
 use mathlib.Core.Path.{_≡_, refl, sym, ap, ap₂, _∙_}
 use mathlib.Core.Bool.{Bool, true, false, cond, _&&_, not, false≢true}
@@ -19,6 +19,9 @@ use Rattle.rules.specs.Tokens.{Sep, ampamp-, ampamp, amp-, amp, Lex, Tok
 use Rattle.rules.specs.Units.{Radix, rD, rH, rO, rB, Base, Unit, num, keyed, identifier, symbolic, text, sameRadix, plain}
 use Rattle.rules.specs.WellFormed.{wfUnit, wfRange, wfElement, wfValue}
 use Rattle.rules.proofs.UnitBack.{item-back, base-back}
+
+-- the parts of a conjunction
+ruleset parts = (and-l, and-r, leb-true, eqb-true)
 
 -- ---- places: any supply
 
@@ -218,25 +221,17 @@ later-full b l₀ q p e ps hl hr =
 
 -- what `elemOk` says
 module _ (b : Base) (n : ℕ) (e : Element) (h : wfElement b n e ≡ true) where
-  pub x1 : Bool
-  x1 = eqb (length (leading e)) n
-
   pub ok-length : length (leading e) ≡ n
-  ok-length = eqb-true (length (leading e)) n (and-l (eqb (length (leading e)) n) (all (wfUnit b) (leading e))
-      (and-l (eqb (length (leading e)) n && all (wfUnit b) (leading e)) (wfUnit b (lastUnit e))
-      (and-l (eqb (length (leading e)) n && all (wfUnit b) (leading e) && wfUnit b (lastUnit e)) (wfRange b e) h)))
+  ok-length = search parts
 
   pub ok-lead : all (wfUnit b) (leading e) ≡ true
-  ok-lead = and-r (eqb (length (leading e)) n) (all (wfUnit b) (leading e))
-      (and-l (eqb (length (leading e)) n && all (wfUnit b) (leading e)) (wfUnit b (lastUnit e))
-      (and-l (eqb (length (leading e)) n && all (wfUnit b) (leading e) && wfUnit b (lastUnit e)) (wfRange b e) h))
+  ok-lead = search parts
 
   pub ok-last : wfUnit b (lastUnit e) ≡ true
-  ok-last = and-r (eqb (length (leading e)) n && all (wfUnit b) (leading e)) (wfUnit b (lastUnit e))
-      (and-l (eqb (length (leading e)) n && all (wfUnit b) (leading e) && wfUnit b (lastUnit e)) (wfRange b e) h)
+  ok-last = search parts
 
   pub ok-range : wfRange b e ≡ true
-  ok-range = and-r (eqb (length (leading e)) n && all (wfUnit b) (leading e) && wfUnit b (lastUnit e)) (wfRange b e) h
+  ok-range = search parts
 
 pub rest-back : (b : Base) (n : ℕ) (e₀ : Element) (es : List Element) (ps : List ℕ) → all (wfElement b (length (leading e₀))) es ≡ true → n + length es ≤ 65
     → Rest b n e₀ es (mk itself ps (restLinks e₀ es))
@@ -322,25 +317,17 @@ rest-ok b n e₀ (e ∷ es) h =
 -- ---- a value
 
 module _ (b : Base) (e : Element) (es : List Element) (h : wfValue b (e ∷ es) ≡ true) where
-  pub n : ℕ
-  n = length (leading e)
-
   pub v-lead : leb (length (leading e)) 3 ≡ true
-  v-lead = and-l (leb (length (leading e)) 3) (all (wfElement b (length (leading e))) (e ∷ es))
-      (and-l (leb (length (leading e)) 3 && all (wfElement b (length (leading e))) (e ∷ es)) (leb (length (e ∷ es)) 64)
-      (and-l (leb (length (leading e)) 3 && all (wfElement b (length (leading e))) (e ∷ es) && leb (length (e ∷ es)) 64) (leb (valueCount (e ∷ es)) 4096) h))
+  v-lead = search parts
 
   pub v-all : all (wfElement b (length (leading e))) (e ∷ es) ≡ true
-  v-all = and-r (leb (length (leading e)) 3) (all (wfElement b (length (leading e))) (e ∷ es))
-      (and-l (leb (length (leading e)) 3 && all (wfElement b (length (leading e))) (e ∷ es)) (leb (length (e ∷ es)) 64)
-      (and-l (leb (length (leading e)) 3 && all (wfElement b (length (leading e))) (e ∷ es) && leb (length (e ∷ es)) 64) (leb (valueCount (e ∷ es)) 4096) h))
+  v-all = search parts
 
   pub v-few : leb (length (e ∷ es)) 64 ≡ true
-  v-few = and-r (leb (length (leading e)) 3 && all (wfElement b (length (leading e))) (e ∷ es)) (leb (length (e ∷ es)) 64)
-      (and-l (leb (length (leading e)) 3 && all (wfElement b (length (leading e))) (e ∷ es) && leb (length (e ∷ es)) 64) (leb (valueCount (e ∷ es)) 4096) h)
+  v-few = search parts
 
   pub v-count : leb (valueCount (e ∷ es)) 4096 ≡ true
-  v-count = and-r (leb (length (leading e)) 3 && all (wfElement b (length (leading e))) (e ∷ es) && leb (length (e ∷ es)) 64) (leb (valueCount (e ∷ es)) 4096) h
+  v-count = search parts
 
   pub v-elem : wfElement b (length (leading e)) e ≡ true
   v-elem = and-l (wfElement b (length (leading e)) e) (all (wfElement b (length (leading e))) es) v-all

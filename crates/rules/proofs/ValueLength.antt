@@ -1,4 +1,4 @@
--- A value's printed text is no longer than the tokens it was read from.
+-- A value's printed text is no longer than the tokens it was read from: joins, groups and links have weights that no pass increases.
 use Prim.Native.Nat.{ℕ, suc, _+_, _-_, _≤_}
 use mathlib.Core.Path.{_≡_, refl, sym, ap, _∙_}
 use mathlib.Core.Bool.{Bool, true, false, cond, not, false≢true}

@@ -1,4 +1,4 @@
--- What the reader accepts as a value is well formed.
+-- A value that the reader accepts is well formed: collecting and grouping keep well-formed units, and each group rule passed is one of `wfElement`'s.
 use Prim.Native.Nat.{ℕ, suc, _+_, _≤_}
 use mathlib.Core.Path.{_≡_, refl, sym, ap, _∙_, subst}
 use mathlib.Core.Bool.{Bool, true, false, cond, _&&_, false≢true}
