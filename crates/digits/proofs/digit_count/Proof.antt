@@ -1,0 +1,38 @@
+-- The digits counted and those of the quotient that is left make all digits of n.
+use Prim.Native.Nat.{_-_}
+use native.Mathlib.Nat.{div-lt-self}
+use Rattle.digits.proofs.DigitLaws.{counting-none, counting-more, counting-all, Counting}
+use mathlib.Core.Path.{refl}
+use native.Mathlib.Omega.{arith}
+use Rattle.digits.proofs.digit_count.Statement.{statement}
+use Rattle.digits.proofs.digit_count.Tie as tie
+use Rattle.digits.proofs.digit_count.Reads as reads
+use Rattle.digits.proofs.digit_count.Lts as lts
+
+abbrev Inv-loop : tie.InvT-loop
+Inv-loop n base m₀ k₀ m k = Counting base n k m (33 - k)
+
+abbrev μ-loop : tie.MeasureT-loop
+μ-loop n base m₀ k₀ m k = m
+
+loop-holds : tie.Need-loop-holds Inv-loop μ-loop
+loop-holds c = let a = c .args in counting-none (a .base) (a .n) (omega arith)
+
+div-m : tie.Need-div-m Inv-loop μ-loop
+div-m c = omega arith
+
+add-k : tie.Need-add-k Inv-loop μ-loop
+add-k c = omega arith
+
+loop-less : tie.Need-loop-less Inv-loop μ-loop
+loop-less c = div-lt-self (omega arith) (omega arith)
+
+loop-again : tie.Need-loop-again Inv-loop μ-loop
+loop-again c = counting-more _ refl (omega arith) (c .loop-test .taken) (c .before .loop .inv)
+
+returns : tie.Need-returns Inv-loop μ-loop
+returns c = counting-all (c .loop-test .left) (c .before .loop .inv)
+
+pub digit-count-spec : {M : Type 1} → statement M
+digit-count-spec =
+    tie.close (tie.spec Inv-loop μ-loop loop-holds div-m add-k loop-less loop-again returns)

@@ -1,0 +1,65 @@
+-- The digits still to come, written over the buffer as it is, give the final buffer.
+use Rattle.digits.specs.Digits.{fixed}
+use Prim.Native.Nat.{_-_, _≤_}
+use native.Mathlib.Nat.{mod-lt}
+use denote.Ref.{now}
+use Rattle.digits.proofs.DigitLaws.{Writing, writing-none, writing-more, writing-all}
+use native.Mathlib.Omega.{arith}
+use Rattle.digits.proofs.put_digits.Statement.{statement}
+use Rattle.digits.proofs.put_digits.Tie as tie
+use Rattle.digits.proofs.put_digits.Reads as reads
+use Rattle.digits.proofs.put_digits.Lts as lts
+use Rattle.digits.proofs.digit_char.Reads as digit-char-reads
+
+abbrev Inv-loop : tie.InvT-loop
+Inv-loop out₀ k n base m₀ i₀ out m i = Writing (fixed k base n) out₀ base i m out
+
+abbrev μ-loop : tie.MeasureT-loop
+μ-loop out₀ k n base m₀ i₀ out m i = i
+
+loop-holds : tie.Need-loop-holds Inv-loop μ-loop
+loop-holds c = let a = c .before .args in writing-none (a .k) (a .base) (a .n) (now (a .out)) (c .before .pre .2)
+
+sub-i : tie.Need-sub-i Inv-loop μ-loop
+sub-i c = omega arith
+
+rem-digit-char : tie.Need-rem-digit-char Inv-loop μ-loop
+rem-digit-char c = omega arith
+
+digit-char-requires : tie.Need-digit-char-requires Inv-loop μ-loop
+digit-char-requires c κs = let z : 1 ≤ c .before .before .before .args .base = omega arith in omega (arith, mod-lt (c .before .loop .m) z)
+
+slice-write-out : tie.Need-slice-write-out Inv-loop μ-loop
+slice-write-out c = omega (arith, c .before .before .loop .inv)
+
+div-m : tie.Need-div-m Inv-loop μ-loop
+div-m c = omega arith
+
+loop-less : tie.Need-loop-less Inv-loop μ-loop
+loop-less c = omega arith
+
+loop-again : tie.Need-loop-again Inv-loop μ-loop
+loop-again c = rw (c .digit-char .ensures) (writing-more (c .before .before .loop .i - 1) (omega arith) (c .before .before .loop .inv))
+
+same-length : tie.Need-same-length Inv-loop μ-loop
+same-length c = c .before .loop .inv .long
+
+returns : tie.Need-returns Inv-loop μ-loop
+returns c = writing-all (omega arith) (c .before .loop .inv)
+
+pub put-digits-spec : {M : Type 1} → statement M
+put-digits-spec =
+    tie.close
+    (tie.spec
+    Inv-loop
+    μ-loop
+    loop-holds
+    sub-i
+    rem-digit-char
+    digit-char-requires
+    slice-write-out
+    div-m
+    loop-less
+    loop-again
+    same-length
+    returns)

@@ -1,0 +1,213 @@
+// Digits in every base: the classes of bytes, a run of digits read, and digits written straight to their place.
+ghost use mathlib.Core.Path.{_≡_};
+ghost use Prim.Native.Nat.{ℕ, _+_, _<_, _≤_};
+ghost use lib.ListN.{length};
+ghost use Rattle.laws.specs.Over.{over};
+ghost use Rattle.rules.specs.Characters.{isLetter, isDigit, isAlnum, isSymbolChar};
+ghost use Rattle.rules.specs.Units.{digitValue, isKey};
+ghost use Rattle.rules.specs.Printing.{digitChar};
+ghost use Rattle.digits.specs.Digits.{plainLetter, sizeAt, grown, digitsAt, whole, fixed};
+
+// The largest value of a numeral.
+pub const MOST_VALUE: u64 = 4294967295;
+
+// The most fraction digits of a numeral.
+pub const MOST_FRACTION: usize = 9;
+
+// What `digit` answers for a byte that is no digit: more than any base has.
+const NO_DIGIT: u8 = 99;
+
+// The byte ten before A: the digit A counts ten.
+const BEFORE_A: u8 = 55;
+
+// Where a run of digits ends, and its value.
+pub struct Run {
+    pub end: usize,
+    pub value: u64,
+}
+
+// A letter, A to Z or a to z.
+pub fn is_letter(b: u8) -> bool
+    ensures { λ r. ⌜ r ≡ isLetter b ⌝ }
+{
+    match b {
+        b'A'..=b'Z' => true,
+        b'a'..=b'z' => true,
+        _ => false,
+    }
+}
+
+// A decimal digit.
+pub fn is_digit(b: u8) -> bool
+    ensures { λ r. ⌜ r ≡ isDigit b ⌝ }
+{
+    match b {
+        b'0'..=b'9' => true,
+        _ => false,
+    }
+}
+
+// A letter or a decimal digit: a character of identifiers.
+pub fn is_alnum(b: u8) -> bool
+    ensures { λ r. ⌜ r ≡ isAlnum b ⌝ }
+{
+    if is_letter(b) {
+        return true;
+    }
+    is_digit(b)
+}
+
+// A character of symbolic names.
+pub fn is_sign(b: u8) -> bool
+    ensures { λ r. ⌜ r ≡ isSymbolChar b ⌝ }
+{
+    if is_alnum(b) {
+        return true;
+    }
+    if b == b'+' {
+        return true;
+    }
+    if b == b'#' {
+        return true;
+    }
+    b == b'%'
+}
+
+// A digit of keyed numerals.
+pub fn is_key(b: u8) -> bool
+    ensures { λ r. ⌜ r ≡ isKey b ⌝ }
+{
+    if is_digit(b) {
+        return true;
+    }
+    if b == b'*' {
+        return true;
+    }
+    if b == b'#' {
+        return true;
+    }
+    match b {
+        b'A'..=b'D' => true,
+        _ => false,
+    }
+}
+
+// The letter of a base that has values: D, H, O or B.
+pub fn plain_letter(letter: u8) -> bool
+    ensures { λ r. ⌜ r ≡ plainLetter letter ⌝ }
+{
+    if letter == b'D' {
+        return true;
+    }
+    if letter == b'H' {
+        return true;
+    }
+    if letter == b'O' {
+        return true;
+    }
+    letter == b'B'
+}
+
+// How many digits the base of a letter has: those of D for a byte that is no letter of a base.
+pub fn size(letter: u8) -> u8
+    ensures { λ r. ⌜ r ≡ sizeAt letter ⌝ }
+{
+    match letter {
+        b'H' => 16,
+        b'O' => 8,
+        b'B' => 2,
+        _ => 10,
+    }
+}
+
+// The value of a digit, 0 to 15.
+fn digit(b: u8) -> u8
+    ensures { λ r. ⌜ r ≡ digitValue b ⌝ }
+{
+    match b {
+        b'0'..=b'9' => b - b'0',
+        b'A'..=b'F' => b - BEFORE_A,
+        _ => NO_DIGIT,
+    }
+}
+
+// One digit more behind a value; a value above the limit stays as it is.
+fn grow(v: u64, base: u8, d: u8) -> u64
+    requires { ⌜ base ≤ 16 ⌝ }
+    ensures { λ r. ⌜ r ≡ grown base v d ⌝ }
+{
+    if v <= MOST_VALUE {
+        v * base as u64 + d as u64
+    } else {
+        v
+    }
+}
+
+// The longest run of digits of a base from `from` on: where it ends, and its value behind digits of value `start`.
+pub fn digits(word: &[u8], from: usize, base: u8, start: u64) -> Run
+    requires { ⌜ base ≤ 16 ⌝ }
+    ensures { λ r. ⌜ r ≡ digitsAt base (now (word .entry)) from start ⌝ }
+{
+    let mut i = from;
+    let mut v = start;
+    while i < word.len() {
+        let d = digit(word[i]);
+        if d < base {
+            v = grow(v, base, d);
+            i += 1;
+        } else {
+            return Run { end: i, value: v };
+        }
+    }
+    Run { end: i, value: v }
+}
+
+// The character of a digit.
+fn digit_char(d: u32) -> u8
+    requires { ⌜ d < 16 ⌝ }
+    ensures { λ r. ⌜ r ≡ digitChar d ⌝ }
+{
+    if d < 10 {
+        b'0' + d as u8
+    } else {
+        BEFORE_A + d as u8
+    }
+}
+
+// How many digits n has in a base.
+pub fn digit_count(n: u32, base: u32) -> usize
+    requires { ⌜ (2 ≤ base) × (base ≤ 16) ⌝ }
+    ensures { λ r. ⌜ r ≡ length (whole base n) ⌝ }
+{
+    let mut m = n;
+    let mut k: usize = 1;
+    while m >= base {
+        m = m / base;
+        k += 1;
+    }
+    k
+}
+
+// Writes the last k digits of n, from the last back, each to its place.
+pub fn put_digits(out: &mut [u8], k: usize, n: u32, base: u32)
+    requires { ⌜ (2 ≤ base) × (base ≤ 16) × (k ≤ length (now out)) ⌝ }
+    ensures { λ r. ⌜ now (out .exit) ≡ over (fixed k base n) (now (out .entry)) ⌝ }
+{
+    let mut m = n;
+    let mut i = k;
+    while 0 < i {
+        i -= 1;
+        out[i] = digit_char(m % base);
+        m = m / base;
+    }
+}
+
+// Writes all digits of n; returns how many.
+pub fn put_whole(out: &mut [u8], n: u32, base: u32) -> usize
+    requires { ⌜ (2 ≤ base) × (base ≤ 16) × (length (whole base n) ≤ length (now out)) ⌝ }
+    ensures { λ r. ⌜ (r ≡ length (whole base n)) × (now (out .exit) ≡ over (whole base n) (now (out .entry))) ⌝ }
+{
+    let k = digit_count(n, base);
+    put_digits(out, k, n, base);
+    k
+}

@@ -1,0 +1,155 @@
+// Tagged fields of records. Each writer is lent the buffer from its field's start on, and says every byte of it.
+ghost use mathlib.Core.Path.{_≡_};
+ghost use mathlib.Core.List.{[], _∷_};
+ghost use Prim.Native.Nat.{_+_, _*_, _≤_, _<_};
+ghost use lib.ListN.{length};
+ghost use Rattle.laws.specs.Over.{over};
+ghost use Rattle.rules.specs.Records.{field, fieldBytes};
+ghost use Rattle.fields.specs.Units.{twoBytes, numeralBytes, unitBytes, Skips};
+
+// The tag of a D, H, O or B numeral.
+pub const NUMERAL: u8 = 7;
+
+// The tag of a keyed numeral.
+pub const KEYED: u8 = 8;
+
+// The tag of an identifier.
+pub const IDENTIFIER: u8 = 9;
+
+// The tag of a symbolic name.
+pub const SYMBOLIC: u8 = 10;
+
+// The tag of a string.
+pub const STRING: u8 = 11;
+
+// The bytes before a field's content: one of the tag, two of the length.
+pub const HEADER: usize = 3;
+
+// The bytes of a numeral's content: one of the letter, one of the fraction digits, four of the value.
+pub const NUMERAL_CONTENT: u8 = 6;
+
+// The bytes of a numeral's field.
+const NUMERAL_FIELD: usize = 9;
+
+// What the second byte from the end of a number counts.
+const SECOND: u32 = 256;
+
+// What the third byte from the end of a number counts.
+const THIRD: u32 = 65536;
+
+// What the fourth byte from the end of a number counts.
+const FOURTH: u32 = 16777216;
+
+// The number of four bytes, the high one first.
+pub fn number(a: u8, b: u8, c: u8, d: u8) -> u32
+    ensures { λ r. ⌜ r ≡ a * 16777216 + b * 65536 + c * 256 + d ⌝ }
+{
+    a as u32 * FOURTH + b as u32 * THIRD + c as u32 * SECOND + d as u32
+}
+
+// Where a field ends whose length has these two bytes, the high one first.
+pub fn field_end(a: u8, b: u8) -> usize
+    ensures { λ r. ⌜ r ≡ 3 + (a * 256 + b) ⌝ }
+{
+    HEADER + (a as usize * 256 + b as usize)
+}
+
+// Writes one byte.
+pub fn put_u8(out: &mut [u8], n: u8)
+    requires { ⌜ 1 ≤ length (now out) ⌝ }
+    ensures { λ r. ⌜ now (out .exit) ≡ over (n ∷ []) (now (out .entry)) ⌝ }
+{
+    out[0] = n;
+}
+
+// Writes a number of two bytes, the high one first.
+pub fn put_u16(out: &mut [u8], n: u16)
+    requires { ⌜ 2 ≤ length (now out) ⌝ }
+    ensures { λ r. ⌜ now (out .exit) ≡ over (twoBytes n) (now (out .entry)) ⌝ }
+{
+    out[0] = (n / 256) as u8;
+    out[1] = (n % 256) as u8;
+}
+
+// Writes a copy of the content.
+pub fn put_bytes(out: &mut [u8], content: &[u8])
+    requires { ⌜ length (now content) ≤ length (now out) ⌝ }
+    ensures { λ r. ⌜ now (out .exit) ≡ over (now (content .entry)) (now (out .entry)) ⌝ }
+{
+    let mut i = 0;
+    while i < content.len() {
+        out[i] = content[i];
+        i += 1;
+    }
+}
+
+// Writes a field: tag, length in two bytes, content. Returns how many bytes it wrote.
+pub fn put_field(out: &mut [u8], tag: u8, content: &[u8]) -> usize
+    requires { ⌜ (length (now content) < 65536) × (3 + length (now content) ≤ length (now out)) ⌝ }
+    ensures { λ r. ⌜ (r ≡ 3 + length (now (content .entry)))
+        × (now (out .exit) ≡ over (fieldBytes (field tag (now (content .entry)))) (now (out .entry))) ⌝ }
+{
+    let n = content.len();
+    put_u8(out, tag);
+    put_u16(&mut out[1..], n as u16);
+    put_bytes(&mut out[HEADER..], content);
+    HEADER + n
+}
+
+// Writes the field of a D, H, O or B numeral.
+pub fn put_numeral(out: &mut [u8], letter: u8, fraction: u8, value: u32)
+    requires { ⌜ 9 ≤ length (now out) ⌝ }
+    ensures { λ r. ⌜ now (out .exit) ≡ over (numeralBytes letter fraction value) (now (out .entry)) ⌝ }
+{
+    out[0] = NUMERAL;
+    out[1] = 0;
+    out[2] = NUMERAL_CONTENT;
+    out[3] = letter;
+    out[4] = fraction;
+    out[5] = (value / FOURTH) as u8;
+    out[6] = (value / THIRD % 256) as u8;
+    out[7] = (value / SECOND % 256) as u8;
+    out[8] = (value % 256) as u8;
+}
+
+// How many bytes the field of a word's unit has: none where the word is no unit.
+pub fn unit_len(word: &[u8], unit: units::Word) -> usize
+    requires { ⌜ (length (now word) < 65536) × Skips (now word) unit ⌝ }
+    ensures { λ r. ⌜ r ≡ length (unitBytes (now (word .entry)) unit) ⌝ }
+{
+    match unit {
+        units::Word::Numeral {
+            letter,
+            fraction,
+            value,
+        } => NUMERAL_FIELD,
+        units::Word::Keyed { skip } => HEADER + (word.len() - skip),
+        units::Word::Identifier => HEADER + word.len(),
+        units::Word::Symbolic => HEADER + word.len(),
+        units::Word::Unreadable => 0,
+        units::Word::TooBig => 0,
+    }
+}
+
+// Writes the field of a word's unit: nothing where the word is no unit. Returns how many bytes it wrote.
+pub fn put_unit(out: &mut [u8], word: &[u8], unit: units::Word) -> usize
+    requires { ⌜ (length (now word) < 65536) × Skips (now word) unit × (length (unitBytes (now word) unit) ≤ length (now out)) ⌝ }
+    ensures { λ r. ⌜ (r ≡ length (unitBytes (now (word .entry)) unit))
+        × (now (out .exit) ≡ over (unitBytes (now (word .entry)) unit) (now (out .entry))) ⌝ }
+{
+    match unit {
+        units::Word::Numeral {
+            letter,
+            fraction,
+            value,
+        } => {
+            put_numeral(out, letter, fraction, value);
+            NUMERAL_FIELD
+        }
+        units::Word::Keyed { skip } => put_field(out, KEYED, &word[skip..]),
+        units::Word::Identifier => put_field(out, IDENTIFIER, word),
+        units::Word::Symbolic => put_field(out, SYMBOLIC, word),
+        units::Word::Unreadable => 0,
+        units::Word::TooBig => 0,
+    }
+}

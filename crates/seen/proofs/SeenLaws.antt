@@ -1,0 +1,200 @@
+-- Each way through the judge's tests decides the rules' well-formed unit, whatever the order in which the tests are made.
+use mathlib.Core.Path.{_≡_, refl, sym, ap, _∙_}
+use mathlib.Core.List.{List, [], _∷_}
+use mathlib.Core.Bool.{Bool, true, false, not, _&&_, false≢true}
+use mathlib.Core.Option.{Option, none, some}
+use Prim.Native.Nat.{ℕ, suc, zero, _+_, _<_, _≤_}
+use native.Mathlib.Omega.{arith}
+use lib.ListN.{length, getD, drop, drop-of-length-le}
+use lib.Dec.{leb, eqb}
+use borrow.Author.Tests.{le-leb, lt-leb, eq-eqb, ne-eqb, eqb-true}
+use Rattle.laws.specs.Cases.{byBool, pick, and-false}
+use Rattle.laws.specs.Lists.{all, allAt, next}
+use Rattle.rules.specs.Refusals.{mostValue, mostFraction, mostWord}
+use Rattle.rules.specs.Characters.{byte, isWordChar}
+use Rattle.rules.specs.Tokens.{wordChars}
+use Rattle.rules.specs.Units.{Radix, Base, plain, keys, Unit, num, keyed, identifier, symbolic, text, isKey, runOf, numeral, baseOf, radixAt, baseAt, isIdentifier, isSymbolicName}
+use Rattle.rules.specs.Records.{numOf, num4}
+use Rattle.rules.specs.WellFormed.{isNone, wfUnit, okFraction, isDecimal}
+use Rattle.digits.specs.Digits.{plainLetter}
+use Rattle.digits.proofs.LetterLaws.{by-letter, is-plain, no-base}
+use Rattle.units.specs.declared.Word.{Word as Answer}
+use Rattle.units.specs.declared.Word.the-variants.{Numeral, Keyed, Identifier, Symbolic, Unreadable, TooBig}
+use Rattle.units.specs.Words.{sized, ofNumeral}
+use Rattle.units.proofs.WordLaws.{Of, numeral-of}
+use Rattle.seen.specs.declared.Seen.the-variants.{Number, Other, Bad}
+use Rattle.seen.specs.Seen.{okAt, standsAs, judgedUnit, fieldSeen}
+
+and-true : (a : Bool) → a && true ≡ a
+and-true true = refl
+and-true false = refl
+
+-- ---- the turns of `no_double`
+
+module _ (p : Bool) (w : List ℕ) (i : ℕ) where
+  pub ok-end : {r : Bool} → r ≡ okAt p w i → length w ≤ i → true ≡ r
+  unfolding okAt
+  ok-end q h = sym (q ∙ rw (drop-of-length-le w h))
+
+  pub ok-word : {t r : Bool} → r ≡ okAt p w i → i < length w → t ≡ isWordChar (getD w i 0) → t ≡ true → r ≡ okAt false w (i + 1)
+  unfolding okAt
+  ok-word q h e n = q ∙ rw (next w i h, ← e, n)
+
+  pub ok-plus : {t r : Bool} → r ≡ okAt p w i → i < length w → t ≡ isWordChar (getD w i 0) → t ≡ false → getD w i 0 ≡ (byte "+") → p ≡ false → r ≡ okAt true w (i + 1)
+  unfolding okAt
+  ok-plus q h e n k z = q ∙ rw (next w i h, ← e, n, eq-eqb (getD w i 0) (byte "+") k, z)
+
+  pub ok-two : {t r : Bool} → r ≡ okAt p w i → i < length w → t ≡ isWordChar (getD w i 0) → t ≡ false → p ≡ true → false ≡ r
+  unfolding okAt
+  ok-two q h e n z = sym (q ∙ rw (next w i h, ← e, n, z, and-false (eqb (getD w i 0) (byte "+"))))
+
+  pub ok-bad : {t r : Bool} → r ≡ okAt p w i → i < length w → t ≡ isWordChar (getD w i 0) → t ≡ false → (getD w i 0 ≡ (byte "+") → ⊥) → false ≡ r
+  unfolding okAt
+  ok-bad q h e n k = sym (q ∙ rw (next w i h, ← e, n, ne-eqb (getD w i 0) (byte "+") k))
+
+-- ---- no numeral
+
+abbrev pub unread : Answer → Bool
+unread (Numeral l f v) = false
+unread (Keyed k) = false
+unread Identifier = false
+unread Symbolic = false
+unread Unreadable = true
+unread TooBig = false
+
+sized-unread : (l f v : ℕ) → unread (sized l f v) ≡ false
+unfolding sized
+sized-unread l f v = byBool (leb v mostValue) (λ y. byBool (leb f mostFraction) (λ z. rw (y, z)) (λ z. rw (y, z))) (λ y. rw y)
+
+unread-of : (l k : ℕ) (w : List ℕ) (o : Option Unit) → Of l k w o → unread (ofNumeral l k o) ≡ isNone o
+unfolding ofNumeral
+unread-of l k w none h = refl
+unread-of l k w (some (num r f v)) h = sized-unread l f v
+unread-of l k w (some (keyed x)) h = refl
+unread-of l k w (some (identifier x)) h = absurd h
+unread-of l k w (some (symbolic x)) h = absurd h
+unread-of l k w (some (text x)) h = absurd h
+
+pub none-is : (l : ℕ) (w : List ℕ) {a : Answer} → a ≡ ofNumeral l 0 (numeral (baseAt l) (drop 0 w)) → unread a ≡ isNone (numeral (baseAt l) w)
+none-is l w e = ap unread e ∙ unread-of l 0 w (numeral (baseAt l) w) (numeral-of l 0 w)
+
+-- ---- keyed numerals
+
+pub keyed-empty : (w : List ℕ) → length w ≡ 0 → false ≡ runOf isKey w && leb (length w) mostWord
+keyed-empty [] h = refl
+keyed-empty (c ∷ cs) h = absurd (omega arith)
+
+pub keyed-long : (w : List ℕ) → mostWord < length w → false ≡ runOf isKey w && leb (length w) mostWord
+keyed-long w h = rw (lt-leb (length w) mostWord h) (sym (and-false (runOf isKey w)))
+
+pub keyed-all : (w : List ℕ) {t : Bool} → (length w ≡ 0 → ⊥) → length w ≤ mostWord → t ≡ allAt isKey w 0 → t ≡ runOf isKey w && leb (length w) mostWord
+unfolding allAt
+keyed-all [] n h e = absurd (n refl)
+keyed-all (c ∷ cs) n h e = rw (le-leb (length (c ∷ cs)) mostWord h, and-true (all isKey (c ∷ cs))) e
+
+-- ---- names: the rules' chain of tests, over any outcomes of them
+
+-- s: it is of the kind, i: it is an identifier, n: it is no numeral, l: it is short, k: it has no `++`
+module _ (s i n l k : Bool) where
+  long : l ≡ false → false ≡ s && not i && n && (l && k)
+  long h = rw (h, and-false (s && not i && n))
+
+  other-kind : i ≡ true → false ≡ s && not i && n && (l && k)
+  other-kind h = rw (h, and-false s)
+
+  is-numeral : n ≡ false → false ≡ s && not i && n && (l && k)
+  is-numeral h = rw (h, and-false (s && not i))
+
+module _ (b : ℕ) (w : List ℕ) where
+  pub ident-long : mostWord < length w → false ≡ wfUnit (baseAt b) (identifier w)
+  ident-long h = rw (lt-leb (length w) mostWord h) (sym (and-false (isIdentifier w && isNone (numeral (baseAt b) w))))
+
+  pub ident-yes : {t r : Bool} → length w ≤ mostWord → t ≡ isIdentifier w → t ≡ true → r ≡ isNone (numeral (baseAt b) w) → r ≡ wfUnit (baseAt b) (identifier w)
+  ident-yes h e y q = rw (← e, y, le-leb (length w) mostWord h, and-true (isNone (numeral (baseAt b) w))) q
+
+  pub ident-no : {t : Bool} → t ≡ isIdentifier w → t ≡ false → false ≡ wfUnit (baseAt b) (identifier w)
+  ident-no e y = rw (← e, y)
+
+  pub symbol-long : mostWord < length w → false ≡ wfUnit (baseAt b) (symbolic w)
+  symbol-long h = long (isSymbolicName w) (isIdentifier w) (isNone (numeral (baseAt b) w)) (leb (length w) mostWord) (wordChars false w) (lt-leb (length w) mostWord h)
+
+  pub symbol-ident : {t : Bool} → t ≡ isIdentifier w → t ≡ true → false ≡ wfUnit (baseAt b) (symbolic w)
+  symbol-ident e y = other-kind (isSymbolicName w) (isIdentifier w) (isNone (numeral (baseAt b) w)) (leb (length w) mostWord) (wordChars false w) (sym e ∙ y)
+
+  pub symbol-not : {t : Bool} → t ≡ isSymbolicName w → t ≡ false → false ≡ wfUnit (baseAt b) (symbolic w)
+  symbol-not e y = rw (sym e ∙ y)
+
+  pub symbol-num : {t : Bool} → t ≡ isNone (numeral (baseAt b) w) → t ≡ false → false ≡ wfUnit (baseAt b) (symbolic w)
+  symbol-num e y = is-numeral (isSymbolicName w) (isIdentifier w) (isNone (numeral (baseAt b) w)) (leb (length w) mostWord) (wordChars false w) (sym e ∙ y)
+
+  pub symbol-yes : {i s n r : Bool} → length w ≤ mostWord → i ≡ isIdentifier w → i ≡ false → s ≡ isSymbolicName w → s ≡ true
+      → n ≡ isNone (numeral (baseAt b) w) → n ≡ true → r ≡ okAt false w 0 → r ≡ wfUnit (baseAt b) (symbolic w)
+  unfolding okAt
+  symbol-yes h e y f z g x q = rw (le-leb (length w) mostWord h, sym e ∙ y, sym f ∙ z, sym g ∙ x) q
+
+-- ---- the numeral's field
+
+no-plain : (l f v : ℕ) → plainLetter l ≡ false → numOf (baseOf l) f v ≡ none
+no-plain l f v y =
+    byBool (eqb l (byte "K"))
+    (λ k. ap (λ (c : ℕ). numOf (baseOf c) f v) (eqb-true l (byte "K") k))
+    (λ k. rw (no-base l y k))
+
+module _ (b k : ℕ) (w : List ℕ) where
+  pub num-short : (length w ≡ 6 → ⊥) → Bad ≡ fieldSeen b 7 k w
+  unfolding fieldSeen
+  num-short h = rw (ne-eqb (length w) 6 h)
+
+  pub num-keys : length w ≡ 6 → b ≡ byte "K" → Bad ≡ fieldSeen b 7 k w
+  unfolding fieldSeen
+  num-keys h e = rw (eq-eqb (length w) 6 h, eq-eqb b (byte "K") e) (go (baseOf (getD w 0 0)))
+    where
+      go : (o : Option Base) → Bad ≡ judgedUnit keys k (numOf o (getD w 1 0) (num4 w 2))
+      go none = refl
+      go (some (plain r)) = refl
+      go (some keys) = refl
+
+  pub num-letter : {t : Bool} → length w ≡ 6 → t ≡ plainLetter (getD w 0 0) → t ≡ false → Bad ≡ fieldSeen b 7 k w
+  unfolding fieldSeen
+  num-letter h e y = rw (eq-eqb (length w) 6 h, no-plain (getD w 0 0) (getD w 1 0) (num4 w 2) (sym e ∙ y))
+
+  pub num-fraction : {t s : Bool} → length w ≡ 6 → t ≡ plainLetter (getD w 0 0) → t ≡ true → (b ≡ byte "K" → ⊥) → s ≡ okFraction (radixAt (getD w 0 0)) (getD w 1 0) → s ≡ false → Bad ≡ fieldSeen b 7 k w
+  unfolding fieldSeen
+  num-fraction h e y n q z = rw (eq-eqb (length w) 6 h, is-plain (getD w 0 0) (sym e ∙ y) .base, ne-eqb b (byte "K") n, sym q ∙ z)
+
+  pub num-good : {t s : Bool} {v : ℕ} → length w ≡ 6 → t ≡ plainLetter (getD w 0 0) → t ≡ true → (b ≡ byte "K" → ⊥) → s ≡ okFraction (radixAt (getD w 0 0)) (getD w 1 0) → s ≡ true
+      → v ≡ num4 w 2 → v ≤ mostValue → Number (getD w 0 0) (getD w 1 0) v k ≡ fieldSeen b 7 k w
+  unfolding fieldSeen
+  num-good h e y n q z m u =
+      let p = is-plain (getD w 0 0) (sym e ∙ y) in
+      let c : leb (num4 w 2) mostValue ≡ true = le-leb (num4 w 2) mostValue (rw m at u) in
+      rw (eq-eqb (length w) 6 h, p .base, ne-eqb b (byte "K") n, sym q ∙ z, c, p .own, m)
+
+-- ---- a fraction
+
+pub fraction-none : (r : Radix) (f : ℕ) → f ≡ 0 → true ≡ okFraction r f
+fraction-none r f e = rw e
+
+fraction-some : (r : Radix) (f : ℕ) → (f ≡ 0 → ⊥) → okFraction r f ≡ isDecimal r && leb f mostFraction
+fraction-some r zero h = absurd (h refl)
+fraction-some r (suc f) h = refl
+
+pub fraction-decimal : (l f : ℕ) → (f ≡ 0 → ⊥) → l ≡ byte "D" → leb f mostFraction ≡ okFraction (radixAt l) f
+fraction-decimal l f h e = rw (fraction-some (radixAt l) f h, e)
+
+pub fraction-not : (l f : ℕ) → (f ≡ 0 → ⊥) → (l ≡ byte "D" → ⊥) → plainLetter l ≡ true → false ≡ okFraction (radixAt l) f
+unfolding plainLetter
+fraction-not l f h n p =
+    rw (fraction-some (radixAt l) f h)
+    (by-letter (λ l. (l ≡ byte "D" → ⊥) → plainLetter l ≡ true → false ≡ isDecimal (radixAt l) && leb f mostFraction)
+    (λ n y. absurd (n refl)) (λ n y. refl) (λ n y. refl) (λ n y. refl) l (λ d x o b n y. absurd (false≢true (rw (d, x, o, b) at y))) n p)
+
+-- ---- the other kinds
+
+pub other-is : (b t k : ℕ) (w : List ℕ) → (t ≡ 7 → ⊥) → fieldSeen b t k w ≡ pick (standsAs t b w) (Other k) Bad
+unfolding fieldSeen standsAs
+other-is b t k w h =
+    byBool (eqb t 8) (λ y. rw (ne-eqb t 7 h, y))
+    (λ y1. byBool (eqb t 9) (λ y. rw (ne-eqb t 7 h, y1, y))
+    (λ y2. byBool (eqb t 10) (λ y. rw (ne-eqb t 7 h, y1, y2, y))
+    (λ y3. byBool (eqb t 11) (λ y. rw (ne-eqb t 7 h, y1, y2, y3, y)) (λ y. rw (ne-eqb t 7 h, y1, y2, y3, y)))))

@@ -1,0 +1,4 @@
+pub mod NumeralLaws
+pub mod WordLaws
+pub mod FitLaws
+pub mod OtherLaws
