@@ -1,0 +1,5 @@
+pub mod AltLaws
+pub mod PartLaws
+pub mod WithinLaws
+pub mod PackLaws
+pub mod ContentLaws
