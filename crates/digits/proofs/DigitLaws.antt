@@ -9,9 +9,11 @@ use lib.ListN.{length, set, length-append, length-set}
 use lib.Dec.{ltb}
 use Rattle.laws.specs.Cases.{byBool}
 use Rattle.laws.specs.Over.{over, over-last}
-use Rattle.rules.specs.Printing.{digits, digitsOf, digitChar}
+use Rattle.rules.specs.Printing.{digits, digitsOf, digitChar, mostDigits}
 use Rattle.rules.proofs.UnitBack.{digits-low, digits-high, of-length}
 use Rattle.digits.specs.Digits.{whole, fixed}
+
+-- ---- the loop that counts
 
 count-last : (b f m : ℕ) → m < b → length (digits (suc f) b m) ≡ 1
 count-last b f m h = rw (digits-low f b m (lt-ltb m b h))
@@ -30,18 +32,18 @@ halved b f m h k =
     let z : zero < b = omega arith in
     div-lt-iff-lt-mul z .1 (omega (arith, pow-suc 2 f))
 
--- k digits, the first among them, are counted, and m is left, for which the fuel f does
+-- k counts the digits taken off and one of m's, where m is left and f digits are enough for it
 pub record Counting (b n k m f : ℕ) : Type 0 where
   pub sum : length (whole b n) + 1 ≡ k + length (digits f b m)
   pub fits : m < 2 ^ f
-  pub fuel : k + f ≡ 33
+  pub fuel : k + f ≡ mostDigits + 1
   pub some : 1 ≤ f
 
-pub counting-none : (b n : ℕ) → n < 2 ^ 32 → Counting b n 1 n 32
+pub counting-none : (b n : ℕ) → n < 2 ^ mostDigits → Counting b n 1 n mostDigits
 unfolding whole
 counting-none b n h = record { sum = omega arith; fits = h; fuel = refl; some = omega arith }
 
-pub counting-more : {b n k m f : ℕ} (g : ℕ) → 33 - (k + 1) ≡ g → 2 ≤ b → b ≤ m → Counting b n k m f → Counting b n (k + 1) (m / b) g
+pub counting-more : {b n k m f : ℕ} (g : ℕ) → mostDigits + 1 - (k + 1) ≡ g → 2 ≤ b → b ≤ m → Counting b n k m f → Counting b n (k + 1) (m / b) g
 counting-more {b} {n} {k} {m} {f} g eg h p c =
     let r : 2 ≤ f = room f m (omega arith) (c .fits) in
     let e : f ≡ suc g = omega (arith, c .fuel) in
@@ -56,7 +58,19 @@ counting-all {b} {n} {k} {m} {f} h c = go f (c .some) (c .sum)
     go zero s e = absurd (omega arith)
     go (suc f) s e = omega (arith, count-last b f m h)
 
--- ---- all digits are the last so many
+-- ---- all digits are at most 32, and the last so many
+
+digits-most : (k b n : ℕ) → length (digits k b n) ≤ k
+unfolding digits
+digits-most zero b n = omega arith
+digits-most (suc k) b n =
+    byBool (ltb n b)
+    (λ y. rw (digits-low k b n y) (omega arith))
+    (λ y. rw (digits-high k b n y, length-append) (omega (arith, digits-most k b (n / b))))
+
+pub whole-most : (b n : ℕ) → length (whole b n) ≤ mostDigits
+unfolding whole
+whole-most b n = digits-most mostDigits b n
 
 all-fixed : (k b n : ℕ) → 1 ≤ b → digits k b n ≡ digitsOf (length (digits k b n)) b n
 unfolding digits
@@ -70,7 +84,7 @@ all-fixed (suc k) b n h =
 
 pub whole-fixed : (b n k : ℕ) → 1 ≤ b → k ≡ length (whole b n) → fixed k b n ≡ whole b n
 unfolding whole fixed
-whole-fixed b n k h e = rw e (sym (all-fixed 32 b n h))
+whole-fixed b n k h e = rw e (sym (all-fixed mostDigits b n h))
 
 pub length-fixed : (k b n : ℕ) → length (fixed k b n) ≡ k
 unfolding fixed
@@ -78,6 +92,7 @@ length-fixed k b n = of-length k b n
 
 -- ---- the loop that writes, from the last digit back
 
+-- the i digits of m that are still to come, written over o, give e written over old
 pub record Writing (e old : List ℕ) (b i m : ℕ) (o : List ℕ) : Type 0 where
   pub is : over (fixed i b m) o ≡ over e old
   pub long : length o ≡ length old

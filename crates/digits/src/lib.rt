@@ -14,6 +14,9 @@ pub const MOST_VALUE: u64 = 4294967295;
 // The most fraction digits of a numeral.
 pub const MOST_FRACTION: usize = 9;
 
+// How many characters a prefix has: the letter and the mark.
+pub const PREFIX: usize = 2;
+
 // What `digit` answers for a byte that is no digit: more than any base has.
 const NO_DIGIT: u8 = 99;
 

@@ -40,7 +40,7 @@ module _ (p : Bool) (w : List ℕ) (i : ℕ) where
   unfolding okAt
   ok-word q h e n = q ∙ rw (next w i h, ← e, n)
 
-  pub ok-plus : {t r : Bool} → r ≡ okAt p w i → i < length w → t ≡ isWordChar (getD w i 0) → t ≡ false → getD w i 0 ≡ (byte "+") → p ≡ false → r ≡ okAt true w (i + 1)
+  pub ok-plus : {t r : Bool} → r ≡ okAt p w i → i < length w → t ≡ isWordChar (getD w i 0) → t ≡ false → getD w i 0 ≡ byte "+" → p ≡ false → r ≡ okAt true w (i + 1)
   unfolding okAt
   ok-plus q h e n k z = q ∙ rw (next w i h, ← e, n, eq-eqb (getD w i 0) (byte "+") k, z)
 
@@ -48,12 +48,13 @@ module _ (p : Bool) (w : List ℕ) (i : ℕ) where
   unfolding okAt
   ok-two q h e n z = sym (q ∙ rw (next w i h, ← e, n, z, and-false (eqb (getD w i 0) (byte "+"))))
 
-  pub ok-bad : {t r : Bool} → r ≡ okAt p w i → i < length w → t ≡ isWordChar (getD w i 0) → t ≡ false → (getD w i 0 ≡ (byte "+") → ⊥) → false ≡ r
+  pub ok-bad : {t r : Bool} → r ≡ okAt p w i → i < length w → t ≡ isWordChar (getD w i 0) → t ≡ false → (getD w i 0 ≡ byte "+" → ⊥) → false ≡ r
   unfolding okAt
   ok-bad q h e n k = sym (q ∙ rw (next w i h, ← e, n, ne-eqb (getD w i 0) (byte "+") k))
 
 -- ---- no numeral
 
+-- the answer is that the word is no numeral
 abbrev pub unread : Answer → Bool
 unread (Numeral l f v) = false
 unread (Keyed k) = false
@@ -132,7 +133,7 @@ module _ (b : ℕ) (w : List ℕ) where
   unfolding okAt
   symbol-yes h e y f z g x q = rw (le-leb (length w) mostWord h, sym e ∙ y, sym f ∙ z, sym g ∙ x) q
 
--- ---- the numeral's field
+-- ---- the numeral's field: tag 7, six bytes of content
 
 no-plain : (l f v : ℕ) → plainLetter l ≡ false → numOf (baseOf l) f v ≡ none
 no-plain l f v y =
@@ -189,7 +190,7 @@ fraction-not l f h n p =
     (by-letter (λ l. (l ≡ byte "D" → ⊥) → plainLetter l ≡ true → false ≡ isDecimal (radixAt l) && leb f mostFraction)
     (λ n y. absurd (n refl)) (λ n y. refl) (λ n y. refl) (λ n y. refl) l (λ d x o b n y. absurd (false≢true (rw (d, x, o, b) at y))) n p)
 
--- ---- the other kinds
+-- ---- the other kinds: tags 8 to 11
 
 pub other-is : (b t k : ℕ) (w : List ℕ) → (t ≡ 7 → ⊥) → fieldSeen b t k w ≡ pick (standsAs t b w) (Other k) Bad
 unfolding fieldSeen standsAs

@@ -6,15 +6,14 @@ use Prim.Native.Nat.{ℕ, zero, suc, _+_, _/_, _^_, _≤_}
 use native.Mathlib.Omega.{arith}
 use borrow.Author.Tests.{eq-eqb, ne-eqb, eqb-true, eqb-false}
 use lib.ListN.{length, length-append}
-use lib.Dec.{eqb, ltb}
+use lib.Dec.{eqb}
 use Rattle.laws.specs.Cases.{byBool, pick}
 use Rattle.rules.specs.Characters.{byte}
 use Rattle.rules.specs.Units.{Radix, Base, size, letter, radixLetter, num, keyed, radixAt}
 use Rattle.rules.specs.Printing.{digits, digitsOf, mostDigits, numText, prefixed, unitText}
-use Rattle.rules.proofs.UnitBack.{digits-low, digits-high}
 use Rattle.digits.specs.Digits.{sizeAt, whole, fixed}
 use Rattle.digits.proofs.LetterLaws.{radix-at}
-use Rattle.digits.proofs.DigitLaws.{length-fixed}
+use Rattle.digits.proofs.DigitLaws.{length-fixed, whole-most}
 use Rattle.texts.specs.Texts.{prefixOf, partText, numberText, numeralText, keyedText}
 
 -- ---- lengths, piece by piece
@@ -81,18 +80,6 @@ part-is k b n e = rw e
 
 pub part-length : (k b n : ℕ) {m : ℕ} → m ≡ n / b ^ k → length (partText k b n) ≡ length (whole b m) + 1 + k
 part-length k b n e = rw e (part-len k b n)
-
-digits-most : (k b n : ℕ) → length (digits k b n) ≤ k
-unfolding digits
-digits-most zero b n = omega arith
-digits-most (suc k) b n =
-    byBool (ltb n b)
-    (λ y. rw (digits-low k b n y) (omega arith))
-    (λ y. rw (digits-high k b n y, length-append) (omega (arith, digits-most k b (n / b))))
-
-pub whole-most : (b n : ℕ) → length (whole b n) ≤ mostDigits
-unfolding whole
-whole-most b n = digits-most mostDigits b n
 
 pub number-most : (l f v : ℕ) → length (numberText l f v) ≤ mostDigits + 1 + f
 number-most l f v =

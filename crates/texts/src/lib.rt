@@ -5,9 +5,6 @@ ghost use lib.ListN.{length};
 ghost use Rattle.laws.specs.Over.{over};
 ghost use Rattle.texts.specs.Texts.{prefixOf, partText, numberText, numeralText, keyedText};
 
-// How many characters a prefix has: the letter and the mark.
-const PREFIX: usize = 2;
-
 // The base to the power k.
 fn power(base: u32, k: u8) -> u64
     requires { ⌜ (2 ≤ base) × (base ≤ 16) × (k ≤ 9) ⌝ }
@@ -78,14 +75,14 @@ fn put_prefix(out: &mut [u8], base: u8, letter: u8) -> usize
     }
     out[0] = letter;
     out[1] = b'\'';
-    PREFIX
+    digits::PREFIX
 }
 
 // How many characters of prefix the letter needs under the place's base.
 pub fn prefix_len(base: u8, letter: u8) -> usize
     ensures { λ r. ⌜ r ≡ length (prefixOf base letter) ⌝ }
 {
-    if base == letter { 0 } else { PREFIX }
+    if base == letter { 0 } else { digits::PREFIX }
 }
 
 // Writes a D, H, O or B numeral as it stands under the place's base. Returns how many characters.

@@ -17,11 +17,13 @@ use Rattle.units.specs.declared.Word.{Word as Answer}
 use Rattle.units.specs.declared.Word.the-variants.{Numeral, Keyed, Identifier, Symbolic, Unreadable, TooBig}
 use Rattle.units.specs.Words.{sized, ofNumeral, nameUnit, orName, mayStand, prefixUnit, unitUnder}
 
+-- the letter is its base's own, and the limits hold
 pub record IsNumeral (l f v : ℕ) : Type 0 where
   pub own : radixLetter (radixAt l) ≡ l
   pub few : f ≤ mostFraction
   pub small : v ≤ mostValue
 
+-- what every answer for the word w keeps
 abbrev pub Fits : List ℕ → Answer → Type 0
 Fits w (Numeral l f v) = IsNumeral l f v
 Fits w (Keyed k) = k < length w

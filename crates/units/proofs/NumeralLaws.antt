@@ -39,7 +39,7 @@ num-not r x h = rw (h, numeral)
 not-stop : (c : ℕ) → ltb (digitValue c) 10 ≡ true → eqb c (byte ".") ≡ false
 not-stop c y = byBool (eqb c (byte ".")) (λ z. absurd (false≢true (ap (λ (n : ℕ). ltb (digitValue n) 10) (sym (eqb-true c (byte ".") z)) ∙ y))) (λ z. z)
 
-stop-at : (x : List ℕ) → runLength 10 x < length x → getD x (runLength 10 x) 0 ≡ (byte ".") → atStop x ≡ some (take (runLength 10 x) x, drop (suc (runLength 10 x)) x)
+stop-at : (x : List ℕ) → runLength 10 x < length x → getD x (runLength 10 x) 0 ≡ byte "." → atStop x ≡ some (take (runLength 10 x) x, drop (suc (runLength 10 x)) x)
 stop-at [] h e = absurd (omega (arith, run-none 10))
 stop-at (c ∷ cs) h e =
     byBool (ltb (digitValue c) 10)
@@ -54,7 +54,7 @@ abbrev Broken : Option (List ℕ × List ℕ) → Type 0
 Broken none = Always
 Broken (some s) = all (isDigitOf rD) (s .0) ≡ false
 
-stop-not : (x : List ℕ) → (getD x (runLength 10 x) 0 ≡ (byte ".") → ⊥) → Broken (atStop x)
+stop-not : (x : List ℕ) → (getD x (runLength 10 x) 0 ≡ byte "." → ⊥) → Broken (atStop x)
 stop-not [] e = tt
 stop-not (c ∷ cs) e =
     byBool (ltb (digitValue c) 10)
@@ -71,10 +71,9 @@ stop-not (c ∷ cs) e =
 
 dotted-broken : (o : Option (List ℕ × List ℕ)) → Broken o → dotted o ≡ none
 dotted-broken none b = refl
-dotted-broken (some s) b =
-    rw (broken-run (isDigitOf rD) (s .0) b)
+dotted-broken (some s) b = rw (broken-run (isDigitOf rD) (s .0) b)
 
-dotted-second : (xs ys : List ℕ) → runOf (isDigitOf rD) ys ≡ false → dotted (some (xs, ys)) ≡ none
+pub dotted-second : (xs ys : List ℕ) → runOf (isDigitOf rD) ys ≡ false → dotted (some (xs, ys)) ≡ none
 dotted-second xs ys h =
     let z : runOf (isDigitOf rD) xs && runOf (isDigitOf rD) ys ≡ false = ap (λ t. runOf (isDigitOf rD) xs && t) h ∙ and-false (runOf (isDigitOf rD) xs) in
     rw z
@@ -101,7 +100,7 @@ num-start rB (c ∷ cs) h = num-not rB (c ∷ cs) (run-not rB (c ∷ cs) (omega 
 
 -- ---- the code's fraction is the rules'
 
-module _ (l k : ℕ) (w : List ℕ) (at v : ℕ) (xs : List ℕ) (h : at < length w) (n : Near v (valueFrom 10 0 xs)) (f : runOf (isDigitOf rD) xs ≡ true) (s : getD w at 0 ≡ (byte ".")) where
+module _ (l k : ℕ) (w : List ℕ) (at v : ℕ) (xs : List ℕ) (h : at < length w) (n : Near v (valueFrom 10 0 xs)) (f : runOf (isDigitOf rD) xs ≡ true) (s : getD w at 0 ≡ byte ".") where
   pub fraction-is : fractionUnit l w at v ≡ ofNumeral l k (dotted (some (xs, drop (at + 1) w)))
   unfolding fractionUnit ofNumeral
   fraction-is =
@@ -130,7 +129,7 @@ module _ (l k : ℕ) (w : List ℕ) (at v : ℕ) (xs : List ℕ) (h : at < lengt
           let read : Near (digitsAt 10 w (at + 1) v .value) (valueFrom 10 (valueFrom 10 0 xs) (take (runLength 10 y) y)) = rw e at (near-run 10 w (at + 1) v (valueFrom 10 0 xs) (omega arith) n) in
           rw (value-append 10 0 xs y) (rw (take-all (runLength 10 y) y (omega arith)) at read)
 
-fraction-none : (l : ℕ) (w : List ℕ) (at v : ℕ) → (getD w at 0 ≡ (byte ".") → ⊥) → fractionUnit l w at v ≡ Unreadable
+fraction-none : (l : ℕ) (w : List ℕ) (at v : ℕ) → (getD w at 0 ≡ byte "." → ⊥) → fractionUnit l w at v ≡ Unreadable
 unfolding fractionUnit
 fraction-none l w at v s = rw (ne-eqb (getD w at 0) (byte ".") s)
 
@@ -155,11 +154,11 @@ frac-for rD l w i v h k n = go (getD-drop i w (runLength 10 (drop i w)) 0) (drop
         let len : length (drop i w) ≡ length w - i = length-drop i w in
         byBool (eqb (getD x j 0) (byte "."))
         (λ y.
-        let s : getD x j 0 ≡ (byte ".") = eqb-true (getD x j 0) (byte ".") y in
+        let s : getD x j 0 ≡ byte "." = eqb-true (getD x j 0) (byte ".") y in
         let e : i + suc j ≡ i + j + 1 = omega arith in
         rw (stop-at x h s, d, e) (fraction-is l i w (i + j) v (take j x) (omega arith) n (run-take rD x k) (sym g ∙ s)))
         (λ y.
-        let s : getD x j 0 ≡ (byte ".") → ⊥ = eqb-false (getD x j 0) (byte ".") y in
+        let s : getD x j 0 ≡ byte "." → ⊥ = eqb-false (getD x j 0) (byte ".") y in
         rw (dotted-broken (atStop x) (stop-not x s)) (fraction-none l w (i + j) v (λ q. s (g ∙ q))))
 
 module _ (r : Radix) (l : ℕ) (w : List ℕ) (i : ℕ) where
@@ -192,6 +191,6 @@ module _ (r : Radix) (l : ℕ) (w : List ℕ) (i : ℕ) where
       (near-sized l 0 (digitsAt (size r) w i 0 .value) (valueFrom (size r) 0 x)
       (subst (λ (t : List ℕ). Near (digitsAt (size r) w i 0 .value) (valueFrom (size r) 0 t)) (take-all n x (omega arith)) near-at))))
 
-pub plain-is : (l : ℕ) (w : List ℕ) (i : ℕ) → (l ≡ (byte "K") → ⊥) → plainUnit l w i ≡ ofNumeral l i (numeral (baseAt l) (drop i w))
+pub plain-is : (l : ℕ) (w : List ℕ) (i : ℕ) → (l ≡ byte "K" → ⊥) → plainUnit l w i ≡ ofNumeral l i (numeral (baseAt l) (drop i w))
 unfolding plainUnit
 plain-is l w i k = rw (ne-eqb l (byte "K") k) (plain-for (radixAt l) l w i)

@@ -19,11 +19,12 @@ use Rattle.digits.specs.Digits.{plainLetter}
 use Rattle.digits.proofs.LetterLaws.{base-at, is-plain, no-base}
 use Rattle.digits.proofs.RunLaws.{broken-run}
 use Rattle.units.specs.declared.Word.the-variants.{Keyed, Unreadable}
+use Rattle.units.proofs.NumeralLaws.{dotted-second}
 use Rattle.units.specs.Words.{sized, ofNumeral, nameUnit, orName, mayStand, prefixUnit, unitUnder, readAs}
 
--- ---- keys
+-- ---- the ways out of `numeral_unit` under K
 
-module _ (l : ℕ) (w : List ℕ) (i : ℕ) (k : l ≡ (byte "K")) where
+module _ (l : ℕ) (w : List ℕ) (i : ℕ) (k : l ≡ byte "K") where
   pub keys-yes : {t : Bool} → i < length w → t ≡ allAt isKey w i → t ≡ true → Keyed i ≡ ofNumeral l i (numeral (baseAt l) (drop i w))
   unfolding ofNumeral allAt
   keys-yes h e y =
@@ -33,22 +34,17 @@ module _ (l : ℕ) (w : List ℕ) (i : ℕ) (k : l ≡ (byte "K")) where
 
   pub keys-no : {t : Bool} → t ≡ allAt isKey w i → t ≡ false → Unreadable ≡ ofNumeral l i (numeral (baseAt l) (drop i w))
   unfolding ofNumeral allAt
-  keys-no e y =
-      rw (eq-eqb l (byte "K") k, broken-run isKey (drop i w) (sym e ∙ y))
+  keys-no e y = rw (eq-eqb l (byte "K") k, broken-run isKey (drop i w) (sym e ∙ y))
 
   pub keys-none : length w ≤ i → Unreadable ≡ ofNumeral l i (numeral (baseAt l) (drop i w))
   unfolding ofNumeral
   keys-none h = rw (eq-eqb l (byte "K") k, drop-of-length-le w h)
 
--- ---- names
+-- ---- the ways out of `is_identifier` and `is_symbolic`
 
-module _ (w : List ℕ) where
-  pub ident-none : length w ≡ 0 → false ≡ isIdentifier w
-  ident-none h = go w h
-    where
-      go : (w : List ℕ) → length w ≡ 0 → false ≡ isIdentifier w
-      go [] h = refl
-      go (c ∷ cs) h = absurd (omega arith)
+pub ident-none : (w : List ℕ) → length w ≡ 0 → false ≡ isIdentifier w
+ident-none [] h = refl
+ident-none (c ∷ cs) h = absurd (omega arith)
 
 pub ident-some : (w : List ℕ) {t r : Bool} → (length w ≡ 0 → ⊥) → t ≡ isLetter (getD w 0 0) → t ≡ true → r ≡ allAt isAlnum w 1 → r ≡ isIdentifier w
 unfolding allAt
@@ -125,10 +121,7 @@ dotted-mark none b = refl
 dotted-mark (some s) b =
     byBool (any (λ c. eqb c (byte "'")) (s .0))
     (λ y. rw (run-mark (isDigitOf rD) refl (s .0) y))
-    (λ y.
-    let z : runOf (isDigitOf rD) (s .1) ≡ false = run-mark (isDigitOf rD) refl (s .1) (rw y at b) in
-    let q : runOf (isDigitOf rD) (s .0) && runOf (isDigitOf rD) (s .1) ≡ false = ap (λ t. runOf (isDigitOf rD) (s .0) && t) z ∙ and-false (runOf (isDigitOf rD) (s .0)) in
-    rw q)
+    (λ y. dotted-second (s .0) (s .1) (run-mark (isDigitOf rD) refl (s .1) (rw y at b)))
 
 numeral-mark : (b : Base) (w : List ℕ) → any (λ c. eqb c (byte "'")) w ≡ true → numeral b w ≡ none
 numeral-mark keys w h = rw (run-mark isKey refl w h)
@@ -215,7 +208,7 @@ prefix-is p w l (some (identifier x)) h = absurd h
 prefix-is p w l (some (symbolic x)) h = absurd h
 prefix-is p w l (some (text x)) h = absurd h
 
--- ---- the letters
+-- ---- the letter of a prefix
 
 onlyKeys : Base → Bool
 onlyKeys (plain r) = false
@@ -262,7 +255,7 @@ letter-is b c =
     byBool (plainLetter c) (letter-plain b c)
     (λ y. byBool (eqb c (byte "K")) (λ k. subst (Letter b) (sym (eqb-true c (byte "K") k)) (letter-keys b)) (letter-none b c y))
 
--- ---- the theorem: what read_word answers is what the rules read
+-- ---- the theorem: what `read_word` answers is what the rules read
 
 with-prefix : (b : Base) (p : ℕ) (w : List ℕ) → eqb (getD w 1 0) (byte "'") ≡ true → readAs p w (prefixUnit (letter b) w) ≡ readWord b p w
 unfolding prefixUnit readAs

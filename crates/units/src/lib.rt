@@ -24,9 +24,6 @@ pub enum Word {
     TooBig,
 }
 
-// How many characters a prefix has: the letter and the mark.
-const PREFIX: usize = 2;
-
 // A numeral, if its value and its fraction are within the limits.
 fn sized_unit(letter: u8, fraction: usize, value: u64) -> Word
     ensures { λ r. ⌜ r ≡ sized letter fraction value ⌝ }
@@ -224,7 +221,7 @@ fn prefix_unit(word: &[u8], base: u8) -> Word
 {
     let letter = word[0];
     if may_stand(base, letter) {
-        return numeral_unit(word, PREFIX, letter);
+        return numeral_unit(word, digits::PREFIX, letter);
     }
     Word::Unreadable
 }
@@ -233,7 +230,7 @@ fn prefix_unit(word: &[u8], base: u8) -> Word
 pub fn read_word(word: &[u8], base: u8) -> Word
     ensures { λ r. ⌜ r ≡ unitUnder base (now (word .entry)) ⌝ }
 {
-    if word.len() < PREFIX {
+    if word.len() < digits::PREFIX {
         return bare_unit(word, base);
     }
     if word[1] == b'\'' {

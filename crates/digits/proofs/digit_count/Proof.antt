@@ -1,6 +1,7 @@
 -- The digits counted and those of the quotient that is left make all digits of n.
-use Prim.Native.Nat.{_-_}
+use Prim.Native.Nat.{_+_, _-_}
 use native.Mathlib.Nat.{div-lt-self}
+use Rattle.rules.specs.Printing.{mostDigits}
 use Rattle.digits.proofs.DigitLaws.{counting-none, counting-more, counting-all, Counting}
 use mathlib.Core.Path.{refl}
 use native.Mathlib.Omega.{arith}
@@ -10,7 +11,7 @@ use Rattle.digits.proofs.digit_count.Reads as reads
 use Rattle.digits.proofs.digit_count.Lts as lts
 
 abbrev Inv-loop : tie.InvT-loop
-Inv-loop n base m₀ k₀ m k = Counting base n k m (33 - k)
+Inv-loop n base m₀ k₀ m k = Counting base n k m (mostDigits + 1 - k)
 
 abbrev μ-loop : tie.MeasureT-loop
 μ-loop n base m₀ k₀ m k = m

@@ -55,11 +55,15 @@ same-length c = search needs
 
 returns : tie.Need-returns
 unfolding stringText
-returns c = let a = c .before .before .before .before .before .before .before .before .before .before .before .before .before .before .args in
+returns c =
+    let c3 = c .before .before in
+    let c2 = c3 .before .before .before .before in
+    let c1 = c2 .before .before .before .before in
+    let a = c1 .before .before .before .before .args in
     let Y = doubledAt (now (a .content)) 0 in
-    let q : length ((byte "\"" ∷ []) ++ Y) ≡ 1 + c .before .before .before .before .before .before .put-doubled .result = simp length-append (omega (arith, c .before .before .before .before .before .before .put-doubled .ensures .0)) in (
-      omega (arith, string-len (now (a .content)), c .before .before .before .before .before .before .put-doubled .ensures .0),
-      back-over ((byte "\"" ∷ []) ++ Y) (byte "\"" ∷ []) (now (a .out)) (back-over (byte "\"" ∷ []) Y (now (a .out)) (c .before .before .before .before .before .before .before .before .before .before .put-u8 .ensures) refl (c .before .before .before .before .before .before .put-doubled .ensures .1)) q (c .before .before .put-u82 .ensures),
+    let q : length ((byte "\"" ∷ []) ++ Y) ≡ 1 + c2 .put-doubled .result = simp length-append (omega (arith, c2 .put-doubled .ensures .0)) in (
+      omega (arith, string-len (now (a .content)), c2 .put-doubled .ensures .0),
+      back-over ((byte "\"" ∷ []) ++ Y) (byte "\"" ∷ []) (now (a .out)) (back-over (byte "\"" ∷ []) Y (now (a .out)) (c1 .put-u8 .ensures) refl (c2 .put-doubled .ensures .1)) q (c3 .put-u82 .ensures),
     )
 
 pub put-string-spec : {M : Type 1} → statement M

@@ -1,7 +1,8 @@
 -- The lengths of the pieces add up.
 use borrow.Author.Needs.{needs}
 use Rattle.digits.proofs.LetterLaws.{size-low, size-high}
-use Rattle.texts.proofs.TextLaws.{part-length, is-whole, is-part, whole-most}
+use Rattle.digits.proofs.DigitLaws.{whole-most}
+use Rattle.texts.proofs.TextLaws.{part-length, is-whole, is-part}
 use native.Mathlib.Omega.{arith}
 use Rattle.texts.proofs.number_len.Statement.{statement}
 use Rattle.texts.proofs.number_len.Tie as tie

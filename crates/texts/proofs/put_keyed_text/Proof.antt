@@ -37,10 +37,13 @@ same-length c = search needs
 
 returns : tie.Need-returns
 unfolding keyedText
-returns c = let a = c .before .before .before .before .before .before .before .before .before .before .args in (
-  omega (arith, keyed-len (a .base) (now (a .content)), c .before .before .before .before .before .before .put-prefix .ensures .0),
-  back-over (prefixOf (a .base) (byte "K")) (now (a .content)) (now (a .out)) (c .before .before .before .before .before .before .put-prefix .ensures .1) (sym (c .before .before .before .before .before .before .put-prefix .ensures .0)) (c .before .before .put-bytes .ensures),
-)
+returns c =
+    let c2 = c .before .before in
+    let c1 = c2 .before .before .before .before in
+    let a = c1 .before .before .before .before .args in (
+      omega (arith, keyed-len (a .base) (now (a .content)), c1 .put-prefix .ensures .0),
+      back-over (prefixOf (a .base) (byte "K")) (now (a .content)) (now (a .out)) (c1 .put-prefix .ensures .1) (sym (c1 .put-prefix .ensures .0)) (c2 .put-bytes .ensures),
+    )
 
 pub put-keyed-text-spec : {M : Type 1} → statement M
 put-keyed-text-spec =

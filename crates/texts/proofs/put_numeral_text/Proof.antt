@@ -36,10 +36,13 @@ same-length c = search needs
 
 returns : tie.Need-returns
 unfolding numeralText
-returns c = let a = c .before .before .before .before .before .before .before .before .before .args in (
-  omega (arith, numeral-len (a .base) (a .letter) (a .fraction) (a .value), c .before .before .put-number .ensures .0, c .before .before .before .before .before .before .put-prefix .ensures .0),
-  back-over (prefixOf (a .base) (a .letter)) (numberText (a .letter) (a .fraction) (a .value)) (now (a .out)) (c .before .before .before .before .before .before .put-prefix .ensures .1) (sym (c .before .before .before .before .before .before .put-prefix .ensures .0)) (c .before .before .put-number .ensures .1),
-)
+returns c =
+    let c2 = c .before .before in
+    let c1 = c2 .before .before .before .before in
+    let a = c1 .before .before .before .args in (
+      omega (arith, numeral-len (a .base) (a .letter) (a .fraction) (a .value), c2 .put-number .ensures .0, c1 .put-prefix .ensures .0),
+      back-over (prefixOf (a .base) (a .letter)) (numberText (a .letter) (a .fraction) (a .value)) (now (a .out)) (c1 .put-prefix .ensures .1) (sym (c1 .put-prefix .ensures .0)) (c2 .put-number .ensures .1),
+    )
 
 pub put-numeral-text-spec : {M : Type 1} → statement M
 put-numeral-text-spec =

@@ -59,15 +59,20 @@ same-length : tie.Need-same-length
 same-length c = search needs
 
 returns : tie.Need-returns
-returns c = let a = c .before .before .before .before .before .before .before .before .before .before .before .before .before .before .args in
-    let m = c .before .before .before .before .before .before .before .before .before .before .before .before .before-stop .result in
+returns c =
+    let c4 = c .before .before in
+    let c3 = c4 .before .before .before .before in
+    let c2 = c3 .before .before .before .before in
+    let c1 = c2 .before .before in
+    let a = c1 .before .before .args in
+    let m = c1 .before-stop .result in
     let X = whole (a .base) m in
     let Z = fixed (a .k) (a .base) (a .n) in
-    let p : length X ≡ c .before .before .before .before .before .before .before .before .before .before .put-whole .result = sym (c .before .before .before .before .before .before .before .before .before .before .put-whole .ensures .0) in
-    let q : length (X ++ (byte "." ∷ [])) ≡ c .before .before .before .before .before .before .before .before .before .before .put-whole .result + 1 = head-len (a .base) m ∙ rw p in (
-      omega (arith, part-length (a .k) (a .base) (a .n) (c .before .before .before .before .before .before .before .before .before .before .before .before .before-stop .ensures), c .before .before .before .before .before .before .before .before .before .before .put-whole .ensures .0),
-      rw (part-is (a .k) (a .base) (a .n) (c .before .before .before .before .before .before .before .before .before .before .before .before .before-stop .ensures))
-          (back-over (X ++ (byte "." ∷ [])) Z (now (a .out)) (back-over X (byte "." ∷ []) (now (a .out)) (c .before .before .before .before .before .before .before .before .before .before .put-whole .ensures .1) p (c .before .before .before .before .before .before .put-u8 .ensures)) q (c .before .before .put-digits .ensures)),
+    let p : length X ≡ c2 .put-whole .result = sym (c2 .put-whole .ensures .0) in
+    let q : length (X ++ (byte "." ∷ [])) ≡ c2 .put-whole .result + 1 = head-len (a .base) m ∙ rw p in (
+      omega (arith, part-length (a .k) (a .base) (a .n) (c1 .before-stop .ensures), c2 .put-whole .ensures .0),
+      rw (part-is (a .k) (a .base) (a .n) (c1 .before-stop .ensures))
+          (back-over (X ++ (byte "." ∷ [])) Z (now (a .out)) (back-over X (byte "." ∷ []) (now (a .out)) (c2 .put-whole .ensures .1) p (c3 .put-u8 .ensures)) q (c4 .put-digits .ensures)),
     )
 
 pub put-part-spec : {M : Type 1} → statement M
