@@ -1,0 +1,4 @@
+pub mod ElementLaws
+pub mod WalkLaws
+pub mod StandLaws
+pub mod EachLaws

@@ -1,0 +1,179 @@
+// A value's elements, one after the other: 14 and 15, and how many arguments there are.
+use groups;
+use groups::Ends;
+use groups::Shape;
+ghost use mathlib.Core.Path.{_≡_};
+ghost use mathlib.Core.Bool.{false, cond};
+ghost use Prim.Native.Nat.{_≤_, _<_};
+ghost use Rattle.rules.specs.Groups.{elements, groupsOf, collect};
+ghost use Rattle.rules.specs.Tokens.{sepCode, ampamp, ampamp-, amp-, plusplus};
+ghost use Rattle.groups.specs.Joins.{joinsIn, count, sepKind, beginsKind};
+ghost use Rattle.groups.specs.Answers.{Increment, Ordered, Ranged, Upper, Later};
+ghost use Rattle.elements.specs.Walk.{stepOf, valueAnswer};
+
+// A compound argument has at most 4 units: so many before the last.
+const MOST_LEADING: usize = 3;
+
+// 15: a 65th element.
+const MOST_ELEMENTS: usize = 64;
+const TOO_MANY: u8 = 15;
+
+// An element as a step of the walk: no refusal, or its number and place; the unit that begins the next element; the terms behind its first.
+pub struct Step {
+    pub ok: bool,
+    pub no: u8,
+    pub place: u32,
+    pub next: usize,
+    pub more: u32,
+}
+
+// A value's numbers of elements and of arguments, or what is wrong with it.
+pub enum Value {
+    Elements { count: usize, args: u64 },
+    Wrong { no: u8, place: u32 },
+}
+
+// The increment at the n-th unit, behind `++`.
+fn stepped(toks: &[u64], contents: &[u8], base: u8, n: usize, size: u8, lower: u32, upper: u32) -> Shape
+    requires { ⌜ (lower ≤ upper) × (sepKind (now toks) n ≡ sepCode plusplus) ⌝ }
+    ensures { λ r. ⌜ Increment (joinsIn base (now (contents .entry)) (now (toks .entry))) n size lower upper r ⌝ }
+{
+    let inc = groups::step_end(size, groups::end_of(toks, contents, base, n));
+    if inc == 0 {
+        return Shape::Refused { no: groups::GROUP_BROKEN, place: groups::unit_place(toks, n) };
+    }
+    groups::no_more(toks, n + 1, lower, upper, inc)
+}
+
+// What follows the upper end before the n-th unit: perhaps an increment.
+fn increment(toks: &[u64], contents: &[u8], base: u8, n: usize, size: u8, lower: u32, upper: u32) -> Shape
+    requires { ⌜ lower ≤ upper ⌝ }
+    ensures { λ r. ⌜ Increment (joinsIn base (now (contents .entry)) (now (toks .entry))) n size lower upper r ⌝ }
+{
+    let kind = groups::sep_kind(toks, n);
+    if groups::begins(kind) {
+        return Shape::Range { upper: upper, inc: 1, more: upper - lower, next: n };
+    }
+    if kind == groups::PLUSPLUS {
+        return stepped(toks, contents, base, n, size, lower, upper);
+    }
+    Shape::Refused { no: groups::GROUP_BROKEN, place: groups::sep_place(toks, n) }
+}
+
+// A range whose upper end, the n-th unit, must not be below the lower end.
+fn ordered(toks: &[u64], contents: &[u8], base: u8, n: usize, size: u8, lower: u32, upper: u32) -> Shape
+    requires { ⌜ beginsKind (sepKind (now toks) n) ≡ false ⌝ }
+    ensures { λ r. ⌜ Ordered (joinsIn base (now (contents .entry)) (now (toks .entry))) n size lower upper r ⌝ }
+{
+    if lower <= upper {
+        return increment(toks, contents, base, n + 1, size, lower, upper);
+    }
+    Shape::Refused { no: groups::GROUP_BROKEN, place: groups::unit_place(toks, n) }
+}
+
+// A range whose upper end is the n-th unit.
+fn ranged(toks: &[u64], contents: &[u8], base: u8, n: usize) -> Shape
+    requires { ⌜ beginsKind (sepKind (now toks) n) ≡ false ⌝ }
+    ensures { λ r. ⌜ Ranged (joinsIn base (now (contents .entry)) (now (toks .entry))) n r ⌝ }
+{
+    match groups::both_ends(groups::end_of(toks, contents, base, n - 1), groups::end_of(toks, contents, base, n)) {
+        Ends::Both { size, lower, upper } => ordered(toks, contents, base, n, size, lower, upper),
+        Ends::Apart => Shape::Refused { no: groups::GROUP_BROKEN, place: groups::sep_place(toks, n) },
+    }
+}
+
+// The separator of a range: `&&` behind a simple argument, `&&-` behind a compound one.
+fn range_kind(simple: bool) -> u8
+    ensures { λ r. ⌜ r ≡ cond simple (sepCode ampamp) (sepCode ampamp-) ⌝ }
+{
+    if simple {
+        return groups::AMPAMP;
+    }
+    groups::AMPAMP_DASH
+}
+
+// What follows an argument whose last unit is before the n-th.
+fn upper_end(toks: &[u64], contents: &[u8], base: u8, n: usize, simple: bool) -> Shape
+    ensures { λ r. ⌜ Upper (joinsIn base (now (contents .entry)) (now (toks .entry))) n simple r ⌝ }
+{
+    let kind = groups::sep_kind(toks, n);
+    if groups::begins(kind) {
+        return Shape::Single { next: n };
+    }
+    if kind == range_kind(simple) {
+        return ranged(toks, contents, base, n);
+    }
+    Shape::Refused { no: groups::GROUP_BROKEN, place: groups::sep_place(toks, n) }
+}
+
+// An element behind `&-`, which takes over the `leads` leading units of the element before.
+fn short(toks: &[u64], contents: &[u8], base: u8, n: usize, leads: usize) -> Shape
+    requires { ⌜ (n < count (now toks)) × (sepKind (now toks) n ≡ sepCode amp-) ⌝ }
+    ensures { λ r. ⌜ Later (joinsIn base (now (contents .entry)) (now (toks .entry))) leads n r ⌝ }
+{
+    if leads == 0 {
+        return Shape::Refused { no: groups::GROUP_BROKEN, place: groups::sep_place(toks, n) };
+    }
+    upper_end(toks, contents, base, n + 1, false)
+}
+
+// An element behind `&`, an argument in full of as many units as the element before.
+fn full(toks: &[u64], contents: &[u8], base: u8, n: usize, leads: usize) -> Shape
+    requires { ⌜ (n < count (now toks)) × (sepKind (now toks) n ≡ sepCode amp- → ⊥) ⌝ }
+    ensures { λ r. ⌜ Later (joinsIn base (now (contents .entry)) (now (toks .entry))) leads n r ⌝ }
+{
+    let k = groups::arg_end(toks, n + 1);
+    if k - n - 1 == leads {
+        return upper_end(toks, contents, base, k, leads == 0);
+    }
+    Shape::Refused { no: groups::GROUP_BROKEN, place: groups::unit_place(toks, n) }
+}
+
+// The element that begins at the n-th unit, in a value whose arguments have `leads` leading units.
+pub fn later(toks: &[u64], contents: &[u8], base: u8, n: usize, leads: usize) -> Shape
+    requires { ⌜ n < count (now toks) ⌝ }
+    ensures { λ r. ⌜ Later (joinsIn base (now (contents .entry)) (now (toks .entry))) leads n r ⌝ }
+{
+    if groups::sep_kind(toks, n) == groups::AMP_DASH {
+        return short(toks, contents, base, n, leads);
+    }
+    full(toks, contents, base, n, leads)
+}
+
+// An element as a step of the walk.
+pub fn outcome(e: Shape) -> Step
+    ensures { λ r. ⌜ r ≡ stepOf e ⌝ }
+{
+    match e {
+        Shape::Single { next } => Step { ok: true, no: 0, place: 0, next: next, more: 0 },
+        Shape::Range { upper, inc, more, next } => Step { ok: true, no: 0, place: 0, next: next, more: more },
+        Shape::Refused { no, place } => Step { ok: false, no: no, place: place, next: 0, more: 0 },
+    }
+}
+
+// 14 and 15: the elements of a value and their arguments, in one walk. The first element is one in full that sets the number of units.
+pub fn elements(toks: &[u64], contents: &[u8], base: u8) -> Value
+    ensures { λ r. ⌜ r ≡ valueAnswer (elements (groupsOf (collect (joinsIn base (now (contents .entry)) (now (toks .entry)))))) ⌝ }
+{
+    let leads = groups::arg_end(toks, 1) - 1;
+    if MOST_LEADING < leads {
+        return Value::Wrong { no: groups::GROUP_BROKEN, place: groups::sep_place(toks, MOST_LEADING + 1) };
+    }
+    let mut n: usize = 0;
+    let mut c: usize = 0;
+    let mut args: u64 = 0;
+    while n < groups::count(toks) {
+        if MOST_ELEMENTS <= c {
+            return Value::Wrong { no: TOO_MANY, place: groups::sep_place(toks, n) };
+        }
+        let s = outcome(later(toks, contents, base, n, leads));
+        if s.ok {
+            n = s.next;
+            c += 1;
+            args += s.more as u64 + 1;
+        } else {
+            return Value::Wrong { no: s.no, place: s.place };
+        }
+    }
+    Value::Elements { count: c, args: args }
+}

@@ -1,0 +1,16 @@
+use Rattle.pieces.proofs.PieceLaws.{dash-none, dash-some}
+use borrow.Author.Needs.{needs}
+use Rattle.pieces.proofs.is_dash.Statement.{statement}
+use Rattle.pieces.proofs.is_dash.Tie as tie
+
+returns : tie.Need-returns
+returns c = search (needs, dash-none)
+
+kind-requires : tie.Need-kind-requires
+kind-requires c κs = search needs
+
+returns-2 : tie.Need-returns-2
+returns-2 c = search (needs, dash-some)
+
+pub is-dash-spec : {M : Type 1} → statement M
+is-dash-spec = tie.close (tie.spec returns kind-requires returns-2)
