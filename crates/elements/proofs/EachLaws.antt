@@ -38,8 +38,13 @@ between-none b cs ts es {q} h e a =
     let z : q - 1 ≡ d = omega (arith, a b cs) in
     byBool (leb d 3)
     (λ y. record {
-      left = es; whole = e; is = rw z (sym (elements-later b cs ts (leb-true d 3 y)) ∙ e); starts = starts-first b cs ts; short = omega (arith, leb-true d 3 y);
-      inside = omega (arith, dashes-inside d js 0 (omega (arith, joins-length b cs ts)) refl) })
+      left = es;
+      whole = e;
+      is = rw z (sym (elements-later b cs ts (leb-true d 3 y)) ∙ e);
+      starts = starts-first b cs ts;
+      short = omega (arith, leb-true d 3 y);
+      inside = omega (arith, dashes-inside d js 0 (omega (arith, joins-length b cs ts)) refl);
+    })
     (λ y. ok≢bad (sym (elements-long b cs ts (omega (arith, leb-false d 3 y))) ∙ e))
 
 -- the element that begins at n
@@ -62,16 +67,25 @@ module _ (js : List (Join Unit)) {k : ℕ} {done : List Element} {n f : ℕ} (b 
       let g : laterElements (suc c) l (groupAt js n ∷ rest) ≡ ok (b .left) = rw (← group-more js n h (b .starts)) (b .is) in
       byBool (leb (suc c) 64)
       (λ y. bind-ok (later l (groupAt js n)) (λ e. mapR (λ es. e ∷ es) (laterElements (suc (suc c)) (leading e) rest)) (b .left) (rw (y, laterElements) at g)
-        (λ e t m. map-ok (λ es. e ∷ es) (laterElements (suc (suc c)) (leading e) rest) (b .left) m
-          (λ left s z.
-            let st = later-stands js f k n e (b .inside) h t in
-            let o : done ++ b .left ≡ (done ++ (e ∷ [])) ++ left = rw (← z, append-assoc) in
-            let q : suc (length (done ++ (e ∷ []))) ≡ suc (suc c) = rw (length-append, add-one c) in
-            record {
-              el = e; is = t; stands = st; few = omega (arith, leb-true (suc c) 64 y);
-              then = record {
-                left = left; whole = b .whole ∙ ap ok o; is = rw (q, groups-next js (n + 1), ← st .leads) s; starts = begins-next js (n + 1);
-                short = b .short; inside = st .front-inside } })))
+      (λ e t m. map-ok (λ es. e ∷ es) (laterElements (suc (suc c)) (leading e) rest) (b .left) m
+      (λ left s z.
+      let st = later-stands js f k n e (b .inside) h t in
+      let o : done ++ b .left ≡ (done ++ (e ∷ [])) ++ left = rw (← z, append-assoc) in
+      let q : suc (length (done ++ (e ∷ []))) ≡ suc (suc c) = rw (length-append, add-one c) in
+      record {
+        el = e;
+        is = t;
+        stands = st;
+        few = omega (arith, leb-true (suc c) 64 y);
+        then = record {
+          left = left;
+          whole = b .whole ∙ ap ok o;
+          is = rw (q, groups-next js (n + 1), ← st .leads) s;
+          starts = begins-next js (n + 1);
+          short = b .short;
+          inside = st .front-inside;
+        };
+      })))
       (λ y. ok≢bad (rw (y, laterElements) at g))
 
 -- the code's answer for it

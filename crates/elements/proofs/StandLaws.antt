@@ -59,11 +59,11 @@ upper-last [] l u = refl
 upper-last (join s q p i ∷ js) l u =
     byBool (eqb (sepCode s) (cond (isNil l) (sepCode ampamp) (sepCode ampamp-)))
     (λ y. byOption (ends (endOf u) (endOf i)) (λ z. rw (y, upper, z) tt)
-      (λ x z.
-        let e : u ≡ num (x .0) 0 (x .1) = end-is u (x .0, x .1) (ends-left (endOf u) (endOf i) x z) in
-        byBool (leb (x .1) (x .2))
-        (λ w. rw (y, upper, z, w) (subst (λ v. LastIs v (increment l (x .0) (x .1) (x .2) js)) (sym e) (increment-last js l (x .0) (x .1) (x .2))))
-        (λ w. rw (y, upper, z, w) tt)))
+    (λ x z.
+    let e : u ≡ num (x .0) 0 (x .1) = end-is u (x .0, x .1) (ends-left (endOf u) (endOf i) x z) in
+    byBool (leb (x .1) (x .2))
+    (λ w. rw (y, upper, z, w) (subst (λ v. LastIs v (increment l (x .0) (x .1) (x .2) js)) (sym e) (increment-last js l (x .0) (x .1) (x .2))))
+    (λ w. rw (y, upper, z, w) tt)))
     (λ y. rw (y, upper) tt)
 
 -- the place of the last unit, and of the leading ones: behind `&-` these stand where they stood before, at f
@@ -87,13 +87,13 @@ later-stands js f k n e i m h =
     let d = dashesAt js (n + 1) in let l = unitsFrom js f k in
     byBool (eqb (kindAt js n) (sepCode amp-))
     (λ y. byBool (isNil l)
-      (λ z. ok≢bad (rw (y, later, z) at h))
-      (λ z. let s = upper-stands l (unitAt js n) (innerAt js (n + 1)) e (rw (y, later, z) at h) in
-        record { leads = rw y (s .0); last = rw y (s .1); front-inside = rw y i; last-inside = rw y m }))
+    (λ z. ok≢bad (rw (y, later, z) at h))
+    (λ z. let s = upper-stands l (unitAt js n) (innerAt js (n + 1)) e (rw (y, later, z) at h) in
+    record { leads = rw y (s .0); last = rw y (s .1); front-inside = rw y i; last-inside = rw y m }))
     (λ y. byBool (eqb d (length l))
-      (λ z.
-        let g : d ≡ k = eqb-true d (length l) z ∙ items-length k js f in
-        let s = upper-stands (unitsFrom js n d) (unitAt js (n + d)) (innerAt js (n + d + 1)) e (rw (y, later, full-at js n, items-length d js n, z, laterArg) at h) in
-        let o : n + k < length js = omega (arith, dashes-inside d js n m refl) in
-        record { leads = rw (y, ← g) (s .0); last = rw (y, ← g) (s .1); front-inside = rw y o; last-inside = rw y o })
-      (λ z. ok≢bad (rw (y, later, full-at js n, items-length d js n, z, laterArg) at h)))
+    (λ z.
+    let g : d ≡ k = eqb-true d (length l) z ∙ items-length k js f in
+    let s = upper-stands (unitsFrom js n d) (unitAt js (n + d)) (innerAt js (n + d + 1)) e (rw (y, later, full-at js n, items-length d js n, z, laterArg) at h) in
+    let o : n + k < length js = omega (arith, dashes-inside d js n m refl) in
+    record { leads = rw (y, ← g) (s .0); last = rw (y, ← g) (s .1); front-inside = rw y o; last-inside = rw y o })
+    (λ z. ok≢bad (rw (y, later, full-at js n, items-length d js n, z, laterArg) at h)))

@@ -50,7 +50,7 @@ upper-lead [] l u = refl
 upper-lead (join s q p i ∷ js) l u =
     byBool (eqb (sepCode s) (cond (isNil l) (sepCode ampamp) (sepCode ampamp-)))
     (λ y. byOption (ends (endOf u) (endOf i)) (λ z. rw (y, upper, z) tt)
-      (λ x z. byBool (leb (x .1) (x .2)) (λ w. rw (y, upper, z, w) (increment-lead js l (x .0) (x .1) (x .2))) (λ w. rw (y, upper, z, w) tt)))
+    (λ x z. byBool (leb (x .1) (x .2)) (λ w. rw (y, upper, z, w) (increment-lead js l (x .0) (x .1) (x .2))) (λ w. rw (y, upper, z, w) tt)))
     (λ y. rw (y, upper) tt)
 
 abbrev LeadLong : ℕ → Res Element → Type 0
@@ -148,17 +148,21 @@ module _ (js : List (Join Unit)) (l : List Unit) (k n : ℕ) {x : Shape} {s : St
   found o =
       byRes (later l (groupAt js n))
       (λ el t.
-        let v : s ≡ stepOf (elementAnswer (nextAt js (n + 1)) (ok el)) = answer ∙ rw t in
-        record {
-          el = el; is = t; next = rw v (next-of (nextAt js (n + 1)) el); size = rw v (terms-of (nextAt js (n + 1)) el);
-          long = subst (LeadLong (length l)) t (later-long l (groupAt js n)) })
+      let v : s ≡ stepOf (elementAnswer (nextAt js (n + 1)) (ok el)) = answer ∙ rw t in
+      record {
+        el = el;
+        is = t;
+        next = rw v (next-of (nextAt js (n + 1)) el);
+        size = rw v (terms-of (nextAt js (n + 1)) el);
+        long = subst (LeadLong (length l)) t (later-long l (groupAt js n));
+      })
       (λ nr p t. let v : s ≡ stepOf (Refused nr p) = answer ∙ rw t in absurd (false≢true (sym (ap (λ r. r .ok) v) ∙ o)))
 
   missed : s .ok ≡ false → later l (groupAt js n) ≡ bad (s .no) (s .place)
   missed o =
       byRes (later l (groupAt js n))
       (λ el t. let v : s ≡ stepOf (elementAnswer (nextAt js (n + 1)) (ok el)) = answer ∙ rw t in
-        absurd (false≢true (sym o ∙ (ap (λ r. r .ok) v ∙ ok-of (nextAt js (n + 1)) el))))
+      absurd (false≢true (sym o ∙ (ap (λ r. r .ok) v ∙ ok-of (nextAt js (n + 1)) el))))
       (λ nr p t. let v : s ≡ stepOf (Refused nr p) = answer ∙ rw t in t ∙ sym (ap₂ bad (ap (λ r. r .no) v) (ap (λ r. r .place) v)))
 
 -- ---- the invariant
@@ -196,9 +200,13 @@ module _ (b : ℕ) (cs ts : List ℕ) where
       let js = joinsIn b cs ts in
       let d : q - 1 ≡ dashesAt js 1 = omega (arith, a b cs) in
       record {
-        l = unitsFrom js 0 (dashesAt js 1); long = items-length (dashesAt js 1) js 0 ∙ sym d;
+        l = unitsFrom js 0 (dashesAt js 1);
+        long = items-length (dashesAt js 1) js 0 ∙ sym d;
         is = more-none (elements (groupsOf (collect js))) ∙ ap (moreAnswer 0 0) (elements-later b cs ts (omega arith));
-        starts = starts-first b cs ts; few = omega arith; small = omega arith }
+        starts = starts-first b cs ts;
+        few = omega arith;
+        small = omega arith;
+      }
 
   pub walking-long : {q p : ℕ} → ArgEnd ts 1 q → 3 < q - 1 → p ≡ sepPlace ts 4 → Wrong groupBroken p ≡ valueAnswer (elements (groupsOf (collect (joinsIn b cs ts))))
   walking-long a h v = rw (elements-long b cs ts (omega (arith, a b cs)), v)
@@ -230,7 +238,8 @@ module _ (b : ℕ) (cs ts : List ℕ) {k n c a : ℕ} (w : Walking (joinsIn b cs
           is = w .is ∙ one-step js (w .l) c a n (v .el) (s .next) (s .more) f (here e h) (v .is) (v .next) (v .size);
           starts = rw (v .next) (begins-next js (n + 1));
           few = omega arith;
-          small = omega (arith, w .small) }
+          small = omega (arith, w .small);
+        }
 
     pub walking-on : s .ok ≡ true → n < s .next
     walking-on o = let v = found (joinsIn b cs ts) (w .l) k n (w .long) y q o in omega (arith, v .next, next-from (joinsIn b cs ts) (n + 1))

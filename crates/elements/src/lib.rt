@@ -16,6 +16,7 @@ const MOST_LEADING: usize = 3;
 
 // 15: a 65th element.
 const MOST_ELEMENTS: usize = 64;
+
 const TOO_MANY: u8 = 15;
 
 // An element as a step of the walk: no refusal, or its number and place; the unit that begins the next element; the terms behind its first.
@@ -34,41 +35,79 @@ pub enum Value {
 }
 
 // The increment at the n-th unit, behind `++`.
-fn stepped(toks: &[u64], contents: &[u8], base: u8, n: usize, size: u8, lower: u32, upper: u32) -> Shape
+fn stepped(
+    toks: &[u64],
+    contents: &[u8],
+    base: u8,
+    n: usize,
+    size: u8,
+    lower: u32,
+    upper: u32,
+) -> Shape
     requires { ⌜ (lower ≤ upper) × (sepKind (now toks) n ≡ sepCode plusplus) ⌝ }
     ensures { λ r. ⌜ Increment (joinsIn base (now (contents .entry)) (now (toks .entry))) n size lower upper r ⌝ }
 {
     let inc = groups::step_end(size, groups::end_of(toks, contents, base, n));
     if inc == 0 {
-        return Shape::Refused { no: groups::GROUP_BROKEN, place: groups::unit_place(toks, n) };
+        return Shape::Refused {
+            no: groups::GROUP_BROKEN,
+            place: groups::unit_place(toks, n),
+        };
     }
     groups::no_more(toks, n + 1, lower, upper, inc)
 }
 
 // What follows the upper end before the n-th unit: perhaps an increment.
-fn increment(toks: &[u64], contents: &[u8], base: u8, n: usize, size: u8, lower: u32, upper: u32) -> Shape
+fn increment(
+    toks: &[u64],
+    contents: &[u8],
+    base: u8,
+    n: usize,
+    size: u8,
+    lower: u32,
+    upper: u32,
+) -> Shape
     requires { ⌜ lower ≤ upper ⌝ }
     ensures { λ r. ⌜ Increment (joinsIn base (now (contents .entry)) (now (toks .entry))) n size lower upper r ⌝ }
 {
     let kind = groups::sep_kind(toks, n);
     if groups::begins(kind) {
-        return Shape::Range { upper: upper, inc: 1, more: upper - lower, next: n };
+        return Shape::Range {
+            upper: upper,
+            inc: 1,
+            more: upper - lower,
+            next: n,
+        };
     }
     if kind == groups::PLUSPLUS {
         return stepped(toks, contents, base, n, size, lower, upper);
     }
-    Shape::Refused { no: groups::GROUP_BROKEN, place: groups::sep_place(toks, n) }
+    Shape::Refused {
+        no: groups::GROUP_BROKEN,
+        place: groups::sep_place(toks, n),
+    }
 }
 
 // A range whose upper end, the n-th unit, must not be below the lower end.
-fn ordered(toks: &[u64], contents: &[u8], base: u8, n: usize, size: u8, lower: u32, upper: u32) -> Shape
+fn ordered(
+    toks: &[u64],
+    contents: &[u8],
+    base: u8,
+    n: usize,
+    size: u8,
+    lower: u32,
+    upper: u32,
+) -> Shape
     requires { ⌜ beginsKind (sepKind (now toks) n) ≡ false ⌝ }
     ensures { λ r. ⌜ Ordered (joinsIn base (now (contents .entry)) (now (toks .entry))) n size lower upper r ⌝ }
 {
     if lower <= upper {
         return increment(toks, contents, base, n + 1, size, lower, upper);
     }
-    Shape::Refused { no: groups::GROUP_BROKEN, place: groups::unit_place(toks, n) }
+    Shape::Refused {
+        no: groups::GROUP_BROKEN,
+        place: groups::unit_place(toks, n),
+    }
 }
 
 // A range whose upper end is the n-th unit.
@@ -76,9 +115,15 @@ fn ranged(toks: &[u64], contents: &[u8], base: u8, n: usize) -> Shape
     requires { ⌜ beginsKind (sepKind (now toks) n) ≡ false ⌝ }
     ensures { λ r. ⌜ Ranged (joinsIn base (now (contents .entry)) (now (toks .entry))) n r ⌝ }
 {
-    match groups::both_ends(groups::end_of(toks, contents, base, n - 1), groups::end_of(toks, contents, base, n)) {
+    match groups::both_ends(
+        groups::end_of(toks, contents, base, n - 1),
+        groups::end_of(toks, contents, base, n),
+    ) {
         Ends::Both { size, lower, upper } => ordered(toks, contents, base, n, size, lower, upper),
-        Ends::Apart => Shape::Refused { no: groups::GROUP_BROKEN, place: groups::sep_place(toks, n) },
+        Ends::Apart => Shape::Refused {
+            no: groups::GROUP_BROKEN,
+            place: groups::sep_place(toks, n),
+        },
     }
 }
 
@@ -103,7 +148,10 @@ fn upper_end(toks: &[u64], contents: &[u8], base: u8, n: usize, simple: bool) ->
     if kind == range_kind(simple) {
         return ranged(toks, contents, base, n);
     }
-    Shape::Refused { no: groups::GROUP_BROKEN, place: groups::sep_place(toks, n) }
+    Shape::Refused {
+        no: groups::GROUP_BROKEN,
+        place: groups::sep_place(toks, n),
+    }
 }
 
 // An element behind `&-`, which takes over the `leads` leading units of the element before.
@@ -112,7 +160,10 @@ fn short(toks: &[u64], contents: &[u8], base: u8, n: usize, leads: usize) -> Sha
     ensures { λ r. ⌜ Later (joinsIn base (now (contents .entry)) (now (toks .entry))) leads n r ⌝ }
 {
     if leads == 0 {
-        return Shape::Refused { no: groups::GROUP_BROKEN, place: groups::sep_place(toks, n) };
+        return Shape::Refused {
+            no: groups::GROUP_BROKEN,
+            place: groups::sep_place(toks, n),
+        };
     }
     upper_end(toks, contents, base, n + 1, false)
 }
@@ -126,7 +177,10 @@ fn full(toks: &[u64], contents: &[u8], base: u8, n: usize, leads: usize) -> Shap
     if k - n - 1 == leads {
         return upper_end(toks, contents, base, k, leads == 0);
     }
-    Shape::Refused { no: groups::GROUP_BROKEN, place: groups::unit_place(toks, n) }
+    Shape::Refused {
+        no: groups::GROUP_BROKEN,
+        place: groups::unit_place(toks, n),
+    }
 }
 
 // The element that begins at the n-th unit, in a value whose arguments have `leads` leading units.
@@ -145,9 +199,32 @@ pub fn outcome(e: Shape) -> Step
     ensures { λ r. ⌜ r ≡ stepOf e ⌝ }
 {
     match e {
-        Shape::Single { next } => Step { ok: true, no: 0, place: 0, next: next, more: 0 },
-        Shape::Range { upper, inc, more, next } => Step { ok: true, no: 0, place: 0, next: next, more: more },
-        Shape::Refused { no, place } => Step { ok: false, no: no, place: place, next: 0, more: 0 },
+        Shape::Single { next } => Step {
+            ok: true,
+            no: 0,
+            place: 0,
+            next: next,
+            more: 0,
+        },
+        Shape::Range {
+            upper,
+            inc,
+            more,
+            next,
+        } => Step {
+            ok: true,
+            no: 0,
+            place: 0,
+            next: next,
+            more: more,
+        },
+        Shape::Refused { no, place } => Step {
+            ok: false,
+            no: no,
+            place: place,
+            next: 0,
+            more: 0,
+        },
     }
 }
 
@@ -157,14 +234,20 @@ pub fn elements(toks: &[u64], contents: &[u8], base: u8) -> Value
 {
     let leads = groups::arg_end(toks, 1) - 1;
     if MOST_LEADING < leads {
-        return Value::Wrong { no: groups::GROUP_BROKEN, place: groups::sep_place(toks, MOST_LEADING + 1) };
+        return Value::Wrong {
+            no: groups::GROUP_BROKEN,
+            place: groups::sep_place(toks, MOST_LEADING + 1),
+        };
     }
     let mut n: usize = 0;
     let mut c: usize = 0;
     let mut args: u64 = 0;
     while n < groups::count(toks) {
         if MOST_ELEMENTS <= c {
-            return Value::Wrong { no: TOO_MANY, place: groups::sep_place(toks, n) };
+            return Value::Wrong {
+                no: TOO_MANY,
+                place: groups::sep_place(toks, n),
+            };
         }
         let s = outcome(later(toks, contents, base, n, leads));
         if s.ok {
@@ -172,8 +255,14 @@ pub fn elements(toks: &[u64], contents: &[u8], base: u8) -> Value
             c += 1;
             args += s.more as u64 + 1;
         } else {
-            return Value::Wrong { no: s.no, place: s.place };
+            return Value::Wrong {
+                no: s.no,
+                place: s.place,
+            };
         }
     }
-    Value::Elements { count: c, args: args }
+    Value::Elements {
+        count: c,
+        args: args,
+    }
 }

@@ -61,8 +61,8 @@ pub step-none : (r : Radix) (i : Unit) → stepEnd (size r) (endAnswer (endOf i)
 step-none r (num s f v) h =
     byBool (eqb (size r) (size s))
     (λ x. byBool (eqb f 0)
-      (λ y. byBool (leb 1 v) (λ z. let e : v ≡ 0 = rw (y, x) at h in let l = leb-true 1 v z in absurd (omega arith)) (λ z. rw (x, y, z)))
-      (λ y. rw (x, y)))
+    (λ y. byBool (leb 1 v) (λ z. let e : v ≡ 0 = rw (y, x) at h in let l = leb-true 1 v z in absurd (omega arith)) (λ z. rw (x, y, z)))
+    (λ y. rw (x, y)))
     (λ x. rw x)
 step-none r (keyed w) h = refl
 step-none r (identifier w) h = refl
@@ -73,11 +73,11 @@ pub step-some : (r : Radix) (i : Unit) (k : ℕ) → stepEnd (size r) (endAnswer
 step-some r (num s f v) k h =
     byBool (eqb (size r) (size s))
     (λ x. byBool (eqb f 0)
-      (λ y. let e : v ≡ suc k = rw (y, x) at h in rw (x, y, le-leb 1 v (omega arith), e))
-      (λ y. let e : 0 ≡ suc k = rw y at h in absurd (omega arith)))
+    (λ y. let e : v ≡ suc k = rw (y, x) at h in rw (x, y, le-leb 1 v (omega arith), e))
+    (λ y. let e : 0 ≡ suc k = rw y at h in absurd (omega arith)))
     (λ x. byBool (eqb f 0)
-      (λ y. let e : 0 ≡ suc k = rw (y, x) at h in absurd (omega arith))
-      (λ y. let e : 0 ≡ suc k = rw y at h in absurd (omega arith)))
+    (λ y. let e : 0 ≡ suc k = rw (y, x) at h in absurd (omega arith))
+    (λ y. let e : 0 ≡ suc k = rw y at h in absurd (omega arith)))
 step-some r (keyed w) k h = absurd (omega arith)
 step-some r (identifier w) k h = absurd (omega arith)
 step-some r (symbolic w) k h = absurd (omega arith)

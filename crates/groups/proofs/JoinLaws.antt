@@ -59,9 +59,9 @@ module _ (b : ℕ) (cs ts : List ℕ) (n : ℕ) where
   kind-is =
       byBool (ltb n (count ts))
       (λ y. let h = ltb-true n (count ts) y in byBool (eqb n 0)
-        (λ z. let e = eqb-true n 0 z in let h0 : 0 < count ts = omega arith in rw (e, joins-at b cs ts 0 h0))
-        (λ z. let e = eqb-false n 0 z in
-          rw (joins-at b cs ts n h, cons-at 3 ts (n + n) (omega arith), sep-code (joinKind (kindIn (getD ts (n + n - 1) 0))) (join-kind-small (kindIn (getD ts (n + n - 1) 0))), z, y)))
+      (λ z. let e = eqb-true n 0 z in let h0 : 0 < count ts = omega arith in rw (e, joins-at b cs ts 0 h0))
+      (λ z. let e = eqb-false n 0 z in
+      rw (joins-at b cs ts n h, cons-at 3 ts (n + n) (omega arith), sep-code (joinKind (kindIn (getD ts (n + n - 1) 0))) (join-kind-small (kindIn (getD ts (n + n - 1) 0))), z, y)))
       (λ y. let h = past (ltb-false n (count ts) y) in byBool (eqb n 0) (λ z. rw (h, z)) (λ z. rw (h, z, y)))
 
   pub sep-place-is : sepPlaceAt (joinsIn b cs ts) n ≡ sepPlace ts n
@@ -69,8 +69,8 @@ module _ (b : ℕ) (cs ts : List ℕ) (n : ℕ) where
   sep-place-is =
       byBool (ltb n (count ts))
       (λ y. let h = ltb-true n (count ts) y in byBool (eqb n 0)
-        (λ z. let e = eqb-true n 0 z in let h0 : 0 < count ts = omega arith in rw (e, joins-at b cs ts 0 h0))
-        (λ z. let e = eqb-false n 0 z in rw (joins-at b cs ts n h, cons-at 3 ts (n + n) (omega arith), z, y)))
+      (λ z. let e = eqb-true n 0 z in let h0 : 0 < count ts = omega arith in rw (e, joins-at b cs ts 0 h0))
+      (λ z. let e = eqb-false n 0 z in rw (joins-at b cs ts n h, cons-at 3 ts (n + n) (omega arith), z, y)))
       (λ y. let h = past (ltb-false n (count ts) y) in byBool (eqb n 0) (λ z. rw (h, z)) (λ z. rw (h, z, y)))
 
   pub place-is : placeAt (joinsIn b cs ts) n ≡ unitPlace ts n
@@ -200,7 +200,7 @@ full-from zero js m h =
     byBool (beginsKind (kindAt js (m + 1)))
     (λ y. rw (add-zero m, inner-end js (m + 1) y))
     (λ y. let n : kindAt js (m + 1) ≡ 5 → ⊥ = λ e. (let z = dash-more js (m + 1) e in absurd (omega arith)) in
-      rw (add-zero m, inner-more js (m + 1) y, ne-eqb (kindAt js (m + 1)) 5 n, fullArg))
+    rw (add-zero m, inner-more js (m + 1) y, ne-eqb (kindAt js (m + 1)) 5 n, fullArg))
 full-from (suc d) js m h =
     let e = dash-test js (m + 1) d h in
     let y : beginsKind (kindAt js (m + 1)) ≡ false = rw e in

@@ -9,9 +9,13 @@ ghost use Rattle.groups.specs.Answers.{unitEnd, endAt, withLower, bothEn
 
 // The kinds of the separators that join units, in the table's order; the last of them is table::DASH.
 pub const AMPAMP_DASH: u8 = 0;
+
 pub const AMPAMP: u8 = 1;
+
 pub const AMP_DASH: u8 = 2;
+
 pub const AMP: u8 = 3;
+
 pub const PLUSPLUS: u8 = 4;
 
 // 14: a group rule is broken.
@@ -31,9 +35,19 @@ pub enum Ends {
 
 // An element: one argument, or a range of `more` terms behind its first; `next` is the unit that begins the next element.
 pub enum Shape {
-    Single { next: usize },
-    Range { upper: u32, inc: u32, more: u32, next: usize },
-    Refused { no: u8, place: u32 },
+    Single {
+        next: usize,
+    },
+    Range {
+        upper: u32,
+        inc: u32,
+        more: u32,
+        next: usize,
+    },
+    Refused {
+        no: u8,
+        place: u32,
+    },
 }
 
 // How many units the value has.
@@ -101,9 +115,16 @@ fn unit_end(u: Word) -> End
     ensures { λ r. ⌜ r ≡ unitEnd u ⌝ }
 {
     match u {
-        Word::Numeral { letter, fraction, value } => {
+        Word::Numeral {
+            letter,
+            fraction,
+            value,
+        } => {
             if fraction == 0 {
-                return End::Numeral { size: digits::size(letter), value: value };
+                return End::Numeral {
+                    size: digits::size(letter),
+                    value: value,
+                };
             }
             End::Other
         }
@@ -143,7 +164,11 @@ fn with_lower(size: u8, lower: u32, upper: End) -> Ends
     match upper {
         End::Numeral { size: own, value } => {
             if size == own {
-                return Ends::Both { size: size, lower: lower, upper: value };
+                return Ends::Both {
+                    size: size,
+                    lower: lower,
+                    upper: value,
+                };
             }
             Ends::Apart
         }
@@ -183,7 +208,15 @@ pub fn no_more(toks: &[u64], n: usize, lower: u32, upper: u32, inc: u32) -> Shap
     ensures { λ r. ⌜ NoMore (now (toks .entry)) n lower upper inc r ⌝ }
 {
     if begins(sep_kind(toks, n)) {
-        return Shape::Range { upper: upper, inc: inc, more: (upper - lower) / inc, next: n };
+        return Shape::Range {
+            upper: upper,
+            inc: inc,
+            more: (upper - lower) / inc,
+            next: n,
+        };
     }
-    Shape::Refused { no: GROUP_BROKEN, place: sep_place(toks, n) }
+    Shape::Refused {
+        no: GROUP_BROKEN,
+        place: sep_place(toks, n),
+    }
 }

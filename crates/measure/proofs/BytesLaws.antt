@@ -38,8 +38,8 @@ field-is b cs t h =
     byBool (ltb (kindIn t) 10)
     (λ y. ok≢bad (rw y at h))
     (λ y. byBool (eqb (kindIn t) 10)
-      (λ z. rw z (unit-bytes b (placeIn t) (contentIn cs t) (unitIn (letter b) cs t) (rw (y, z) at h)))
-      (λ z. rw z (ap (λ i. fieldBytes (unitField i)) (ok-inj (rw (y, z) at h)))))
+    (λ z. rw z (unit-bytes b (placeIn t) (contentIn cs t) (unitIn (letter b) cs t) (rw (y, z) at h)))
+    (λ z. rw z (ap (λ i. fieldBytes (unitField i)) (ok-inj (rw (y, z) at h)))))
 
 -- what a keyed numeral leaves out is there, under any letter
 sized-skips : (w : List ℕ) (l f v : ℕ) → Skips w (sized l f v)

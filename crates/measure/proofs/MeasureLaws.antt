@@ -85,5 +85,8 @@ module _ (l : ℕ) (cs ts : List ℕ) (v : Faultless ts cs l) where
         let z : length (valueBytes (d ++ (m .el ∷ []))) ≡ total + y = rw (value-snoc d (m .el), e, m .bytes) (omega (arith, w .is)) in
         let c : length (d ++ (m .el ∷ [])) ≡ length d + 1 = length-append d (m .el ∷ []) in
         record {
-          done = d ++ (m .el ∷ []); between = m .then; is = sym z;
-          small = omega (arith, w .small, element-small l cs ts x f′ k la (w .between .short)) }
+          done = d ++ (m .el ∷ []);
+          between = m .then;
+          is = sym z;
+          small = omega (arith, w .small, element-small l cs ts x f′ k la (w .between .short));
+        }

@@ -83,5 +83,10 @@ module _ (l : ℕ) (cs ts : List ℕ) where
         record {
           el = t .el;
           bytes = element-is (v .base) l (v .own) ts cs (v .es) (sound (v .base) ts cs (v .end) (v .es) (v .is)) x (t .el) (nextAt js (n + 1)) f′ k la a
-            (rw (← zf) (st .leads)) (rw (← zl) (st .last)) hf hl;
-          then = rw (← zf, ← zn) (t .then); few = t .few; on = omega (arith, next-from js (n + 1)); front = hf; last = hl }
+              (rw (← zf) (st .leads)) (rw (← zl) (st .last)) hf hl;
+          then = rw (← zf, ← zn) (t .then);
+          few = t .few;
+          on = omega (arith, next-from js (n + 1));
+          front = hf;
+          last = hl;
+        }

@@ -17,6 +17,7 @@ ghost use Rattle.measure.specs.Measure.{bytesAt, bytesFrom, headBytes, e
 
 // A field's tag and length before its content, and the field of a range with its upper end and increment.
 const FIELD_HEAD: usize = 3;
+
 const RANGE_FIELD: usize = 11;
 
 // How many bytes the n-th unit's field takes.
@@ -28,7 +29,10 @@ fn unit_len(toks: &[u64], contents: &[u8], base: u8, n: usize) -> usize
     let from = table::start(t, contents.len());
     let to = table::end(t, contents.len());
     if table::kind(t) == table::WORD {
-        return fields::unit_len(&contents[from..to], units::read_word(&contents[from..to], base));
+        return fields::unit_len(
+            &contents[from..to],
+            units::read_word(&contents[from..to], base),
+        );
     }
     FIELD_HEAD + (to - from)
 }
@@ -53,17 +57,32 @@ fn head_len(x: Shape) -> usize
 {
     match x {
         Shape::Single { next } => FIELD_HEAD,
-        Shape::Range { upper, inc, more, next } => RANGE_FIELD,
+        Shape::Range {
+            upper,
+            inc,
+            more,
+            next,
+        } => RANGE_FIELD,
         Shape::Refused { no, place } => 0,
     }
 }
 
 // How many bytes an element takes: its own field, its `leads` leading units that stand from `front` on, its last unit.
-fn element_len(toks: &[u64], contents: &[u8], base: u8, x: Shape, front: usize, leads: usize, last: usize) -> usize
+fn element_len(
+    toks: &[u64],
+    contents: &[u8],
+    base: u8,
+    x: Shape,
+    front: usize,
+    leads: usize,
+    last: usize,
+) -> usize
     requires { ⌜ (leads ≤ 3) × (front + leads ≤ count (now toks)) × (last < count (now toks)) ⌝ }
     ensures { λ r. ⌜ r ≡ length (elementBytes base (now (contents .entry)) (now (toks .entry)) x front leads last) ⌝ }
 {
-    head_len(x) + units_len(toks, contents, base, front, leads) + unit_len(toks, contents, base, last)
+    head_len(x)
+        + units_len(toks, contents, base, front, leads)
+        + unit_len(toks, contents, base, last)
 }
 
 // Where the leading units of the element at the n-th unit stand: behind `&-` where those of the element before stand, else here.
@@ -101,7 +120,15 @@ pub fn value_len(toks: &[u64], contents: &[u8], base: u8) -> usize
         let s = elements::outcome(x);
         let kind = groups::sep_kind(toks, n);
         front = front_of(kind, front, n);
-        total += element_len(toks, contents, base, x, front, leads, last_of(kind, n, leads));
+        total += element_len(
+            toks,
+            contents,
+            base,
+            x,
+            front,
+            leads,
+            last_of(kind, n, leads),
+        );
         n = s.next;
     }
     total

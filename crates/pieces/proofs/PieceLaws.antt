@@ -79,7 +79,7 @@ dash-kind k w =
     byBool (ltb k 10)
     (λ y. rw (y, sep-code k (ltb-true k 10 y)) (eqb-sym 5 k))
     (λ y. let l = ltb-false k 10 y in let n : k ≡ 5 → ⊥ = λ e. absurd (omega arith) in
-      byBool (eqb k 10) (λ z. rw (y, z, ne-eqb k 5 n)) (λ z. rw (y, z, ne-eqb k 5 n)))
+    byBool (eqb k 10) (λ z. rw (y, z, ne-eqb k 5 n)) (λ z. rw (y, z, ne-eqb k 5 n)))
 
 dash-yes : (left nr : ℕ) (x nm : Bool) (cs : List ℕ) (t : ℕ) (ts : List ℕ) (e : ℕ) → dashTest left t ≡ true
     → pieces nr (test x) (test nm) left false (tokensIn cs (t ∷ ts)) e ≡ pieces nr (test nm) (test nm) (left - 1) true (tokensIn cs ts) e

@@ -68,7 +68,10 @@ pub fn pieces(toks: &[u64], contents: &[u8], names: bool, most: usize, no: u8, e
                 index = names;
                 i += 1;
             } else {
-                return Verdict::Refused { no: no, place: table::place(t) };
+                return Verdict::Refused {
+                    no: no,
+                    place: table::place(t),
+                };
             }
         } else {
             if is_dash(left, t) {
@@ -77,7 +80,10 @@ pub fn pieces(toks: &[u64], contents: &[u8], names: bool, most: usize, no: u8, e
                 left -= 1;
                 i += 1;
             } else {
-                return Verdict::Refused { no: no, place: table::place(t) };
+                return Verdict::Refused {
+                    no: no,
+                    place: table::place(t),
+                };
             }
         }
     }

@@ -38,9 +38,9 @@ units-read b cs (t ∷ ts) true s q e js is h g =
     let k = kindIn t in let w = contentIn cs t in
     byBool (leb wordKind k)
     (λ y. map-ok (λ js. join s q (placeIn t) (lexOfKind k w) ∷ js) (alternate joiner (tokensIn cs ts) e) js (rw (unit-kind k w ∙ y, alternate) at h)
-      (λ js′ h′ z. bind-ok (readUnit b (placeIn t) (lexOfKind k w)) (λ i. mapR (λ is. join s q (placeIn t) i ∷ is) (readUnits b js′)) is (rw (← z) at g)
-        (λ i hi hr. map-ok (λ is. join s q (placeIn t) i ∷ is) (readUnits b js′) is hr
-          (λ is′ hr′ z′. (hi ∙ ap ok (unit-item b cs t y i hi), units-read b cs ts false s q e js′ is′ h′ hr′)))))
+    (λ js′ h′ z. bind-ok (readUnit b (placeIn t) (lexOfKind k w)) (λ i. mapR (λ is. join s q (placeIn t) i ∷ is) (readUnits b js′)) is (rw (← z) at g)
+    (λ i hi hr. map-ok (λ is. join s q (placeIn t) i ∷ is) (readUnits b js′) is hr
+    (λ is′ hr′ z′. (hi ∙ ap ok (unit-item b cs t y i hi), units-read b cs ts false s q e js′ is′ h′ hr′)))))
     (λ y. ok≢bad (rw (unit-kind k w ∙ y, alternate) at h))
 units-read b cs (t ∷ ts) false s q e js is h g =
     let k = kindIn t in let w = contentIn cs t in
@@ -72,10 +72,12 @@ pub sound : (b : Base) (ts cs : List ℕ) (e : ℕ) (es : List Element) → read
 sound b ts cs e es h =
     bind-ok (alternate (unitAfter amp 0) (tokensIn cs ts) e) _ es h
     (λ js a h2. bind-ok (readUnits b js) _ es h2
-      (λ is r h3. bind-ok (elements (groupsOf (collect is))) _ es h3
-        (λ v g h4. guard-ok (leb (valueCount v) mostArguments) tooManyOrders (first (tokensIn cs ts) e) (λ _. ok v) es h4
-          (λ y h5.
-            let z : is ≡ joinsIn (letter b) cs ts = items-are b cs ts true amp 0 e js is a r ∙ joins-all (letter b) cs ts in
-            record {
-              some = some-token cs ts e js a; groups = rw (← z) (g ∙ h5);
-              units = λ n l. unit-at b cs ts n (units-read b cs ts true amp 0 e js is a r) l }))))
+    (λ is r h3. bind-ok (elements (groupsOf (collect is))) _ es h3
+    (λ v g h4. guard-ok (leb (valueCount v) mostArguments) tooManyOrders (first (tokensIn cs ts) e) (λ _. ok v) es h4
+    (λ y h5.
+    let z : is ≡ joinsIn (letter b) cs ts = items-are b cs ts true amp 0 e js is a r ∙ joins-all (letter b) cs ts in
+    record {
+      some = some-token cs ts e js a;
+      groups = rw (← z) (g ∙ h5);
+      units = λ n l. unit-at b cs ts n (units-read b cs ts true amp 0 e js is a r) l;
+    }))))

@@ -90,8 +90,8 @@ units-verdict b cs (t ∷ ts) true s q e js h =
     let k = kindIn t in let w = contentIn cs t in
     byBool (leb 10 k)
     (λ y. map-ok (λ js. join s q (placeIn t) (lexOfKind k w) ∷ js) (alternate joiner (tokensIn cs ts) e) js (rw (unit-kind k w ∙ y, alternate) at h)
-      (λ js′ h′ z. rw (← z, ← unit-verdict b cs t y, ← units-verdict b cs ts false s q e js′ h′)
-        (verdict-bind (readUnit b (placeIn t) (lexOfKind k w)) (readUnits b js′) (λ i. join s q (placeIn t) i))))
+    (λ js′ h′ z. rw (← z, ← unit-verdict b cs t y, ← units-verdict b cs ts false s q e js′ h′)
+    (verdict-bind (readUnit b (placeIn t) (lexOfKind k w)) (readUnits b js′) (λ i. join s q (placeIn t) i))))
     (λ y. ok≢bad (rw (unit-kind k w ∙ y, alternate) at h))
 units-verdict b cs (t ∷ ts) false s q e js h =
     let k = kindIn t in let w = contentIn cs t in
@@ -116,9 +116,9 @@ items-are b cs (t ∷ ts) true s q e js is h g =
     let k = kindIn t in let w = contentIn cs t in
     byBool (leb 10 k)
     (λ y. map-ok (λ js. join s q (placeIn t) (lexOfKind k w) ∷ js) (alternate joiner (tokensIn cs ts) e) js (rw (unit-kind k w ∙ y, alternate) at h)
-      (λ js′ h′ z. bind-ok (readUnit b (placeIn t) (lexOfKind k w)) (λ i. mapR (λ is. join s q (placeIn t) i ∷ is) (readUnits b js′)) is (rw (← z) at g)
-        (λ i hi hr. map-ok (λ is. join s q (placeIn t) i ∷ is) (readUnits b js′) is hr
-          (λ is′ hr′ z′. rw (← z′, ← items-are b cs ts false s q e js′ is′ h′ hr′, ← unit-item b cs t y i hi)))))
+    (λ js′ h′ z. bind-ok (readUnit b (placeIn t) (lexOfKind k w)) (λ i. mapR (λ is. join s q (placeIn t) i ∷ is) (readUnits b js′)) is (rw (← z) at g)
+    (λ i hi hr. map-ok (λ is. join s q (placeIn t) i ∷ is) (readUnits b js′) is hr
+    (λ is′ hr′ z′. rw (← z′, ← items-are b cs ts false s q e js′ is′ h′ hr′, ← unit-item b cs t y i hi)))))
     (λ y. ok≢bad (rw (unit-kind k w ∙ y, alternate) at h))
 items-are b cs (t ∷ ts) false s q e js is h g =
     let k = kindIn t in let w = contentIn cs t in
@@ -192,9 +192,9 @@ read-fine ts cs l e {v} {r} a h q b m =
     let p0 = first-place cs ts e (some-token ts e w) in
     verdict-ok (alternate (unitAfter amp 0) (tokensIn cs ts) e) (sym (w cs))
     (λ js y.
-      let uv = units-verdict b cs ts true amp 0 e js y in
-      byRes (readUnits b js)
-      (λ is g.
-        let z : is ≡ joinsIn (letter b) cs ts = items-are b cs ts true amp 0 e js is y g ∙ joins-all (letter b) cs ts in
-        rw (q, m, ← uv, y, g, z, ← p0) (limit-is (first (tokensIn cs ts) e) (elements (groupsOf (collect (joinsIn (letter b) cs ts))))))
-      (λ n p g. rw (q, m, ← uv, y, g)))
+    let uv = units-verdict b cs ts true amp 0 e js y in
+    byRes (readUnits b js)
+    (λ is g.
+    let z : is ≡ joinsIn (letter b) cs ts = items-are b cs ts true amp 0 e js is y g ∙ joins-all (letter b) cs ts in
+    rw (q, m, ← uv, y, g, z, ← p0) (limit-is (first (tokensIn cs ts) e) (elements (groupsOf (collect (joinsIn (letter b) cs ts))))))
+    (λ n p g. rw (q, m, ← uv, y, g)))

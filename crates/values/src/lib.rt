@@ -12,8 +12,11 @@ ghost use Rattle.values.specs.Passes.{wordVerdict, unitVerdict, unitsVer
 
 // 12: a unit cannot be read. 13: a numeral is too big. 16: over 4,096 arguments.
 const UNREADABLE: u8 = 12;
+
 const TOO_BIG: u8 = 13;
+
 const TOO_MANY_ORDERS: u8 = 16;
+
 const MOST_ARGUMENTS: u64 = 4096;
 
 // 12 and 13 for a word.
@@ -21,8 +24,14 @@ fn word_verdict(u: Word, place: u32) -> Verdict
     ensures { λ r. ⌜ r ≡ wordVerdict place u ⌝ }
 {
     match u {
-        Word::Unreadable => Verdict::Refused { no: UNREADABLE, place: place },
-        Word::TooBig => Verdict::Refused { no: TOO_BIG, place: place },
+        Word::Unreadable => Verdict::Refused {
+            no: UNREADABLE,
+            place: place,
+        },
+        Word::TooBig => Verdict::Refused {
+            no: TOO_BIG,
+            place: place,
+        },
         _ => Verdict::Fine,
     }
 }
@@ -46,7 +55,10 @@ fn readable(toks: &[u64], contents: &[u8], base: u8) -> Verdict
     let mut i: usize = 0;
     while i < toks.len() {
         match unit_verdict(contents, base, toks[i]) {
-            Verdict::Refused { no, place } => return Verdict::Refused { no: no, place: place },
+            Verdict::Refused { no, place } => return Verdict::Refused {
+                no: no,
+                place: place,
+            },
             Verdict::Fine => i += 1,
         }
     }
@@ -60,9 +72,15 @@ fn limit(v: Value, place: u32) -> Value
     match v {
         Value::Elements { count, args } => {
             if args <= MOST_ARGUMENTS {
-                return Value::Elements { count: count, args: args };
+                return Value::Elements {
+                    count: count,
+                    args: args,
+                };
             }
-            Value::Wrong { no: TOO_MANY_ORDERS, place: place }
+            Value::Wrong {
+                no: TOO_MANY_ORDERS,
+                place: place,
+            }
         }
         Value::Wrong { no, place: at } => Value::Wrong { no: no, place: at },
     }
@@ -74,8 +92,14 @@ fn grouped(toks: &[u64], contents: &[u8], base: u8) -> Value
     ensures { λ r. ⌜ r ≡ groupedAnswer base (now (contents .entry)) (now (toks .entry)) ⌝ }
 {
     match readable(toks, contents, base) {
-        Verdict::Refused { no, place } => Value::Wrong { no: no, place: place },
-        Verdict::Fine => limit(elements::elements(toks, contents, base), table::place(toks[0])),
+        Verdict::Refused { no, place } => Value::Wrong {
+            no: no,
+            place: place,
+        },
+        Verdict::Fine => limit(
+            elements::elements(toks, contents, base),
+            table::place(toks[0]),
+        ),
     }
 }
 
@@ -84,7 +108,10 @@ pub fn read_value(toks: &[u64], contents: &[u8], base: u8, end: u32) -> Value
     ensures { λ r. ⌜ Reads (now (toks .entry)) (now (contents .entry)) base end r ⌝ }
 {
     match table::alternates(toks, end) {
-        Verdict::Refused { no, place } => Value::Wrong { no: no, place: place },
+        Verdict::Refused { no, place } => Value::Wrong {
+            no: no,
+            place: place,
+        },
         Verdict::Fine => grouped(toks, contents, base),
     }
 }

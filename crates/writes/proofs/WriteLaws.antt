@@ -72,7 +72,11 @@ module _ {l : ℕ} {cs ts old : List ℕ} {n d i k : ℕ} {o : List ℕ} (w : Pu
       let z : length (x ++ y) ≡ k + m = length-append x y ∙ omega (arith, w .size) in
       let q : bytesFrom l cs ts n (i + 1) ≡ x ++ y = rw (add-one i) in
       record {
-        is = rw q p; size = rw q z; long = ap length p ∙ length-over (x ++ y) old (omega (arith, putting-room h, w .long)); left = omega arith }
+        is = rw q p;
+        size = rw q z;
+        long = ap length p ∙ length-over (x ++ y) old (omega (arith, putting-room h, w .long));
+        left = omega arith;
+      }
 
   pub putting-all : d ≤ i → (k ≡ length (bytesFrom l cs ts n d)) × (o ≡ over (bytesFrom l cs ts n d) old)
   putting-all h = let z : d ≡ i = omega (arith, w .left) in (rw z (sym (w .size)), rw z (w .is))
@@ -103,9 +107,9 @@ module _ (l : ℕ) (cs ts old : List ℕ) (v : Fits ts cs l (length old)) where
           let d = w .done in let s = v .value in
           let g : v .value .es ≡ (d ++ (m .el ∷ [])) ++ m .then .left = ok-inj (sym (rw (s .own) (sound (s .base) ts cs (s .end) (s .es) (s .is) .groups)) ∙ m .then .whole) in
           let a : valueBytes (s .es) ≡ (valueBytes d ++ bytesOf (elementFields (m .el))) ++ valueBytes (m .then .left)
-              = ap valueBytes g ∙ (value-append (d ++ (m .el ∷ [])) (m .then .left) ∙ ap (λ y. y ++ valueBytes (m .then .left)) (value-snoc d (m .el))) in
+          = ap valueBytes g ∙ (value-append (d ++ (m .el ∷ [])) (m .then .left) ∙ ap (λ y. y ++ valueBytes (m .then .left)) (value-snoc d (m .el))) in
           let t : length (valueBytes (s .es)) ≡ length (valueBytes d) + length (bytesOf (elementFields (m .el))) + length (valueBytes (m .then .left))
-              = rw (a, length-append, length-append) in
+          = rw (a, length-append, length-append) in
           rw (m .bytes) (omega (arith, v .room, w .size, w .long))
 
       pub writing-more : {y : ℕ} {ys : List ℕ} → y ≡ length (elementBytes l cs ts x f′ k la) → ys ≡ over (elementBytes l cs ts x f′ k la) (part o at)
@@ -116,5 +120,9 @@ module _ (l : ℕ) (cs ts old : List ℕ) (v : Fits ts cs l (length old)) where
           let p : back o at ys ≡ over (valueBytes d ++ e) old = back-over (valueBytes d) e old (w .is) (w .size) es in
           let z : length (valueBytes d ++ e) ≡ at + y = length-append (valueBytes d) e ∙ omega (arith, w .size) in
           record {
-            done = d ++ (m .el ∷ []); between = m .then; is = rw q p; size = rw q z;
-            long = ap length p ∙ length-over (valueBytes d ++ e) old (omega (arith, writing-room, w .long)) }
+            done = d ++ (m .el ∷ []);
+            between = m .then;
+            is = rw q p;
+            size = rw q z;
+            long = ap length p ∙ length-over (valueBytes d ++ e) old (omega (arith, writing-room, w .long));
+          }

@@ -18,11 +18,14 @@ ghost use Rattle.writes.specs.Writes.{Fits, PutValue};
 
 // The tags of a single element, of a range element and of a string.
 const SINGLE: u8 = 5;
+
 const RANGE: u8 = 6;
+
 const STRING: u8 = 11;
 
 // The content of a range element's field, and the whole field.
 const RANGE_CONTENT: u8 = 8;
+
 const RANGE_FIELD: usize = 11;
 
 // The n-th unit's field. Returns how many bytes it wrote.
@@ -35,13 +38,24 @@ fn put_unit(out: &mut [u8], toks: &[u64], contents: &[u8], base: u8, n: usize) -
     let from = table::start(t, contents.len());
     let to = table::end(t, contents.len());
     if table::kind(t) == table::WORD {
-        return fields::put_unit(out, &contents[from..to], units::read_word(&contents[from..to], base));
+        return fields::put_unit(
+            out,
+            &contents[from..to],
+            units::read_word(&contents[from..to], base),
+        );
     }
     fields::put_field(out, STRING, &contents[from..to])
 }
 
 // The fields of `leads` units from the n-th on. Returns how many bytes it wrote.
-fn put_units(out: &mut [u8], toks: &[u64], contents: &[u8], base: u8, n: usize, leads: usize) -> usize
+fn put_units(
+    out: &mut [u8],
+    toks: &[u64],
+    contents: &[u8],
+    base: u8,
+    n: usize,
+    leads: usize,
+) -> usize
     requires { ⌜ (n + leads ≤ count (now toks)) × (length (bytesFrom base (now contents) (now toks) n leads) ≤ length (now out)) ⌝ }
     ensures { λ r. ⌜ (r ≡ length (bytesFrom base (now (contents .entry)) (now (toks .entry)) n leads))
         × (now (out .exit) ≡ over (bytesFrom base (now (contents .entry)) (now (toks .entry)) n leads) (now (out .entry))) ⌝ }
@@ -80,7 +94,12 @@ fn put_head(out: &mut [u8], x: Shape) -> usize
 {
     match x {
         Shape::Single { next } => fields::put_field(out, SINGLE, b""),
-        Shape::Range { upper, inc, more, next } => {
+        Shape::Range {
+            upper,
+            inc,
+            more,
+            next,
+        } => {
             put_range(out, upper, inc);
             RANGE_FIELD
         }
@@ -89,7 +108,16 @@ fn put_head(out: &mut [u8], x: Shape) -> usize
 }
 
 // An element: its own field, its `leads` leading units that stand from `front` on, its last unit. Returns how many bytes it wrote.
-fn put_element(out: &mut [u8], toks: &[u64], contents: &[u8], base: u8, x: Shape, front: usize, leads: usize, last: usize) -> usize
+fn put_element(
+    out: &mut [u8],
+    toks: &[u64],
+    contents: &[u8],
+    base: u8,
+    x: Shape,
+    front: usize,
+    leads: usize,
+    last: usize,
+) -> usize
     requires { ⌜ (front + leads ≤ count (now toks)) × (last < count (now toks))
         × (length (elementBytes base (now contents) (now toks) x front leads last) ≤ length (now out)) ⌝ }
     ensures { λ r. ⌜ (r ≡ length (elementBytes base (now (contents .entry)) (now (toks .entry)) x front leads last))

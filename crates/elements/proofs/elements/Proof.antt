@@ -30,7 +30,7 @@ returns : tie.Need-returns Inv-loop μ-loop
 returns c = search (needs, walking-long)
 
 loop-holds : tie.Need-loop-holds Inv-loop μ-loop
-loop-holds c = 
+loop-holds c =
     let a = c .before .before .before .before .args in
     walking-none (a .base) (now (a .contents)) (now (a .toks)) (c .before .arg-end .ensures) (omega arith)
 
@@ -62,18 +62,21 @@ add-args-2 : tie.Need-add-args-2 Inv-loop μ-loop
 add-args-2 c = search needs
 
 loop-less : tie.Need-loop-less Inv-loop μ-loop
-loop-less c = 
+loop-less c =
     let d = c .before .before .before .before .before .before .before in
     let a = d .before .before .before .before .before .args in
-    omega (arith, walking-on (a .base) (now (a .contents)) (now (a .toks)) (d .loop .inv) (c .before .before .before .before .before .before .count .ensures) (c .before .before .before .before .before .if2 .taken)
-      (c .before .before .before .later .ensures) (c .before .before .outcome .ensures) (c .before .if4 .taken))
+    omega (
+      arith,
+      walking-on (a .base) (now (a .contents)) (now (a .toks)) (d .loop .inv) (c .before .before .before .before .before .before .count .ensures) (c .before .before .before .before .before .if2 .taken)
+          (c .before .before .before .later .ensures) (c .before .before .outcome .ensures) (c .before .if4 .taken),
+    )
 
 loop-again : tie.Need-loop-again Inv-loop μ-loop
-loop-again c = 
+loop-again c =
     let d = c .before .before .before .before .before .before .before in
     let a = d .before .before .before .before .before .args in
     walking-more (a .base) (now (a .contents)) (now (a .toks)) (d .loop .inv) (c .before .before .before .before .before .before .count .ensures) (c .before .before .before .before .before .if2 .taken)
-      (c .before .before .before .later .ensures) (c .before .before .outcome .ensures) (omega (arith, c .before .before .before .before .if3 .left)) (c .before .if4 .taken) (omega (arith, c .struct-known .given))
+    (c .before .before .before .later .ensures) (c .before .before .outcome .ensures) (omega (arith, c .before .before .before .before .if3 .left)) (c .before .if4 .taken) (omega (arith, c .struct-known .given))
 
 returns-3 : tie.Need-returns-3 Inv-loop μ-loop
 returns-3 c = search (needs, walking-bad)

@@ -17,9 +17,10 @@ few : (c : tie.After-unit-len) → let a = c .before .before .before .before .be
 few c =
     let a = c .before .before .before .before .before .args in
     let e = element-len (a .base) (now (a .contents)) (now (a .toks)) (a .x) (a .front) (a .leads) (a .last) in
-    let s = element-small (a .base) (now (a .contents)) (now (a .toks)) (a .x) (a .front) (a .leads) (a .last) (c .before .before .before .before .before .pre .0) in
-    (omega (arith, c .before .before .head-len .ensures, c .before .units-len .ensures, c .unit-len .ensures),
-     omega (arith, c .before .before .head-len .ensures, c .before .units-len .ensures, c .unit-len .ensures))
+    let s = element-small (a .base) (now (a .contents)) (now (a .toks)) (a .x) (a .front) (a .leads) (a .last) (c .before .before .before .before .before .pre .0) in (
+      omega (arith, c .before .before .head-len .ensures, c .before .units-len .ensures, c .unit-len .ensures),
+      omega (arith, c .before .before .head-len .ensures, c .before .units-len .ensures, c .unit-len .ensures),
+    )
 
 head-len-requires : tie.Need-head-len-requires
 head-len-requires c κs = search needs
@@ -28,7 +29,7 @@ units-len-requires : tie.Need-units-len-requires
 units-len-requires c κs = search needs
 
 add-result : tie.Need-add-result
-add-result c = 
+add-result c =
     let a = c .before .before .before .before .args in
     omega (arith, c .before .head-len .ensures, c .units-len .ensures, head-small (a .x), units-small (a .leads) (a .base) (now (a .contents)) (now (a .toks)) (a .front))
 

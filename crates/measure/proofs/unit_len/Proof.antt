@@ -56,12 +56,12 @@ read-word-requires : tie.Need-read-word-requires
 read-word-requires c κs = search needs
 
 unit-len-requires : tie.Need-unit-len-requires
-unit-len-requires c κs = 
+unit-len-requires c κs =
     let e = c .before .before .before .before .before in let a = e .before .before .before .before .before .args in
     lent (a .base) (now (a .contents)) (getD (now (a .toks)) (a .n + a .n) 0) (cut e) (c .read-word .ensures)
 
 returns : tie.Need-returns
-returns c = 
+returns c =
     let e = c .before .before .before .before .before .before in let a = e .before .before .before .before .before .args in
     len-word (a .base) (now (a .contents)) (now (a .toks)) (a .n) (cut e) (c .before .before .before .before .before .kind .ensures) (c .before .before .before .before .if1 .taken) (c .before .read-word .ensures) (c .unit-len .ensures)
 
@@ -72,7 +72,7 @@ add-result : tie.Need-add-result
 add-result c = omega (arith, cut (c .before .before))
 
 returns-2 : tie.Need-returns-2
-returns-2 c = 
+returns-2 c =
     let e = c .before .before in let a = e .before .before .before .before .before .args in
     len-string (a .base) (now (a .contents)) (now (a .toks)) (a .n) (cut e) (c .before .kind .ensures) (c .if1 .left)
 

@@ -26,7 +26,7 @@ unit-len-requires : tie.Need-unit-len-requires Inv-loop μ-loop
 unit-len-requires c κs = search needs
 
 add-total : tie.Need-add-total Inv-loop μ-loop
-add-total c = 
+add-total c =
     let a = c .before .before .before .before .before .args in let l = c .before .before .loop in
     omega (arith, l .inv .0, units-small (l .i) (a .base) (now (a .contents)) (now (a .toks)) (a .n), c .unit-len .ensures, unit-small (a .base) (now (a .contents)) (now (a .toks)) (a .n + l .i))
 

@@ -22,7 +22,7 @@ sub-leads : tie.Need-sub-leads Inv-loop μ-loop
 sub-leads c = omega (arith, c .arg-end .ensures 0 [])
 
 loop-holds : tie.Need-loop-holds Inv-loop μ-loop
-loop-holds c = 
+loop-holds c =
     let s = c .before .before .before in let a = s .args in
     measuring-none (a .base) (now (a .contents)) (now (a .toks)) (s .pre) (c .arg-end .ensures)
 
@@ -42,7 +42,7 @@ front-of-requires : tie.Need-front-of-requires Inv-loop μ-loop
 front-of-requires c κs = search needs
 
 last-of-requires : tie.Need-last-of-requires Inv-loop μ-loop
-last-of-requires c κs = 
+last-of-requires c κs =
     let d = c .before .before .before .before in
     omega (arith, d .before .before .loop .inv .between .short, d .before .count .ensures, d .if1 .taken)
 
@@ -60,35 +60,35 @@ meets c =
     (c .before .before .before .outcome .ensures) (c .before .before .sep-kind .ensures) (c .before .front-of .ensures) (c .last-of .ensures)
 
 element-len-requires : tie.Need-element-len-requires Inv-loop μ-loop
-element-len-requires c κs = 
+element-len-requires c κs =
     let m = meets c in
     (c .before .before .before .before .before .before .before .loop .inv .between .short, m .front, m .last)
 
 add-total : tie.Need-add-total Inv-loop μ-loop
-add-total c = 
+add-total c =
     let l = c .before .before .before .before .before .before .before .before .loop in
     let a = c .before .before .before .before .before .before .before .before .before .before .before .before .args in
     let k = c .before .before .before .before .before .before .before .before .before .arg-end .result - 1 in
     let e = element-small (a .base) (now (a .contents)) (now (a .toks)) (c .before .before .before .before .before .later .result) (c .before .before .front-of .result) k (c .before .last-of .result)
-      (l .inv .between .short) in
+    (l .inv .between .short) in
     omega (arith, l .inv .small, meets (c .before) .few, c .element-len .ensures)
 
 loop-less : tie.Need-loop-less Inv-loop μ-loop
-loop-less c = 
+loop-less c =
     let d = c .before .before .before .before .before .before in
     let l = d .before .before .loop in
     let s = d .before .before .before .before .before .before in let a = s .args in
     omega (arith, meets (c .before) .on, d .before .count .ensures, d .if1 .taken)
 
 loop-again : tie.Need-loop-again Inv-loop μ-loop
-loop-again c = 
+loop-again c =
     let d = c .before .before .before .before .before .before in
     let l = d .before .before .loop in
     let s = d .before .before .before .before .before .before in let a = s .args in
     measuring-more (a .base) (now (a .contents)) (now (a .toks)) (s .pre) (l .inv) (meets (c .before)) (c .element-len .ensures)
 
 returns : tie.Need-returns Inv-loop μ-loop
-returns c = 
+returns c =
     let s = c .before .before .before .before .before .before in let a = s .args in
     measuring-end (a .base) (now (a .contents)) (now (a .toks)) (s .pre) (c .before .before .loop .inv) (c .before .count .ensures) (c .if1 .left)
 

@@ -48,7 +48,7 @@ part-put-units-end : tie.Need-part-put-units-end
 part-put-units-end c = search needs
 
 put-units-requires : tie.Need-put-units-requires
-put-units-requires c κs = 
+put-units-requires c κs =
     let d = c .before .before .before in let s = d .before .before .before .before .before in
     (s .pre .0, omega (arith, length-part (d .put-head .last .0) (d .put-head .result), head d .long, room s, d .put-head .ensures .0))
 
@@ -56,12 +56,12 @@ add-q : tie.Need-add-q
 add-q c = omega (arith, room (c .before .before .before .before .before .before .before .before .before .before .before))
 
 sub-put-unit : tie.Need-sub-put-unit
-sub-put-unit c = 
+sub-put-unit c =
     let u = c .before .before in let d = u .before .before .before .before in
     omega (arith, room (c .before .before .before .before .before .before .before .before .before .before .before), units u .long, d .put-head .ensures .0, u .put-units .ensures .0)
 
 part-put-unit-start : tie.Need-part-put-unit-start
-part-put-unit-start c = 
+part-put-unit-start c =
     let u = c .before .before in let d = u .before .before .before .before in
     omega (arith, room (c .before .before .before .before .before .before .before .before .before .before .before), units u .long, d .put-head .ensures .0, u .put-units .ensures .0)
 
@@ -69,12 +69,12 @@ part-put-unit-end : tie.Need-part-put-unit-end
 part-put-unit-end c = search needs
 
 put-unit-requires : tie.Need-put-unit-requires
-put-unit-requires c κs = 
+put-unit-requires c κs =
     let u = c .before .before .before in let d = u .before .before .before .before in let s = c .before .before .before .before .before .before .before .before .before .before .before .before in
     (s .pre .1, omega (arith, length-part (back (d .put-head .last .0) (d .put-head .result) (u .put-units .last .0)) (d .put-head .result + u .put-units .result), room s, units u .long, d .put-head .ensures .0, u .put-units .ensures .0))
 
 add-result : tie.Need-add-result
-add-result c = 
+add-result c =
     let t = c .before .before in let u = t .before .before .before .before in let d = u .before .before .before .before in
     omega (arith, room (c .before .before .before .before .before .before .before .before .before .before .before .before .before .before .before), t .put-unit .ensures .0, d .put-head .ensures .0, u .put-units .ensures .0, c .before .before .before .before .before .before .before .before .before .before .before .before .before .before .before .good .0 .0)
 
@@ -83,16 +83,17 @@ same-length c = search needs
 
 returns : tie.Need-returns
 unfolding elementBytes
-returns c = 
+returns c =
     let a = c .before .before .before .before .before .before .before .before .before .before .before .before .before .before .before .args in
     let x = headBytes (a .x) in
     let y = bytesFrom (a .base) (now (a .contents)) (now (a .toks)) (a .front) (a .leads) in
     let z = bytesAt (a .base) (now (a .contents)) (now (a .toks)) (a .last) in
     let h = c .before .before .before .before .before .before .before .before .before .before .put-head in let u = c .before .before .before .before .before .before .put-units in let t = c .before .before .put-unit in
     let p : length x ≡ h .result = omega (arith, h .ensures .0) in
-    let q : length (x ++ y) ≡ h .result + u .result = length-append x y ∙ omega (arith, h .ensures .0, u .ensures .0) in
-    (omega (arith, length-append (x ++ y) z, t .ensures .0),
-    back-over (x ++ y) z (now (a .out)) (back-over x y (now (a .out)) (h .ensures .1) p (u .ensures .1)) q (t .ensures .1))
+    let q : length (x ++ y) ≡ h .result + u .result = length-append x y ∙ omega (arith, h .ensures .0, u .ensures .0) in (
+      omega (arith, length-append (x ++ y) z, t .ensures .0),
+      back-over (x ++ y) z (now (a .out)) (back-over x y (now (a .out)) (h .ensures .1) p (u .ensures .1)) q (t .ensures .1),
+    )
 
 pub put-element-spec : {M : Type 1} → statement M
 put-element-spec =

@@ -56,7 +56,7 @@ read-word-requires : tie.Need-read-word-requires
 read-word-requires c κs = search needs
 
 put-unit-requires : tie.Need-put-unit-requires
-put-unit-requires c κs = 
+put-unit-requires c κs =
     let e = c .before .before .before .before .before .before in let s = e .before .before .before .before .before .before in let a = s .args in
     let w = lent (a .base) (now (a .contents)) (getD (now (a .toks)) (a .n + a .n) 0) (cut e) (c .read-word .ensures) in
     let z = word-part (a .base) (now (a .contents)) (now (a .toks)) (a .n) (cut e) (c .before .before .before .before .before .kind .ensures) (c .before .before .before .before .if1 .taken) (c .read-word .ensures) in
@@ -66,7 +66,7 @@ same-length : tie.Need-same-length
 same-length c = search needs
 
 returns : tie.Need-returns
-returns c = 
+returns c =
     let e = c .before .before .before .before .before .before .before .before .before in let s = e .before .before .before .before .before .before in let a = s .args in
     rw (word-part (a .base) (now (a .contents)) (now (a .toks)) (a .n) (cut e) (c .before .before .before .before .before .before .before .before .kind .ensures) (c .before .before .before .before .before .before .before .if1 .taken) (c .before .before .before .read-word .ensures)) (c .before .before .put-unit .ensures)
 
@@ -80,7 +80,7 @@ part-put-field-end : tie.Need-part-put-field-end
 part-put-field-end c = omega (arith, cut (c .before .before .before))
 
 put-field-requires : tie.Need-put-field-requires
-put-field-requires c κs = 
+put-field-requires c κs =
     let e = c .before .before .before .before in let s = e .before .before .before .before .before .before in let a = s .args in
     let z = string-part (a .base) (now (a .contents)) (now (a .toks)) (a .n) (cut e) (c .before .before .before .kind .ensures) (c .before .before .if1 .left) in
     (simp (length-take, length-drop) (omega (arith, cut e)), omega (arith, rw z at (s .pre .1)))
@@ -89,7 +89,7 @@ same-length-2 : tie.Need-same-length-2
 same-length-2 c = search needs
 
 returns-2 : tie.Need-returns-2
-returns-2 c = 
+returns-2 c =
     let e = c .before .before .before .before .before .before .before in let s = e .before .before .before .before .before .before in let a = s .args in
     let q = c .before .before .put-field .ensures in
     rw (string-part (a .base) (now (a .contents)) (now (a .toks)) (a .n) (cut e) (c .before .before .before .before .before .before .kind .ensures) (c .before .before .before .before .before .if1 .left)) (omega (arith, q .0), q .1)

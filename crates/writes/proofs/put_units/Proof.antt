@@ -28,12 +28,12 @@ add-put-unit : tie.Need-add-put-unit Inv-loop μ-loop
 add-put-unit c = search needs
 
 put-unit-requires : tie.Need-put-unit-requires Inv-loop μ-loop
-put-unit-requires c κs = 
+put-unit-requires c κs =
     let l = c .before .before .loop in let s = c .before .before .before .before .before .before in
     (omega (arith, s .pre .0, c .before .loop-test .taken), omega (arith, length-part (l .out) (l .k), putting-room (l .inv) (s .pre .1) (c .before .loop-test .taken)))
 
 add-k : tie.Need-add-k Inv-loop μ-loop
-add-k c = 
+add-k c =
     let l = c .before .before .before .before .before .loop in let s = c .before .before .before .before .before .before .before .before .before in
     omega (arith, c .before .before .put-unit .ensures .0, putting-room (l .inv) (s .pre .1) (c .before .before .before .before .loop-test .taken), l .inv .long, s .good .0 .0)
 
@@ -44,7 +44,7 @@ loop-less : tie.Need-loop-less Inv-loop μ-loop
 loop-less c = search needs
 
 loop-again : tie.Need-loop-again Inv-loop μ-loop
-loop-again c = 
+loop-again c =
     let l = c .before .before .before .before .before .loop in let s = c .before .before .before .before .before .before .before .before .before in
     putting-more (l .inv) (s .pre .1) (c .before .before .before .before .loop-test .taken) (c .before .before .put-unit .ensures .0) (c .before .before .put-unit .ensures .1)
 

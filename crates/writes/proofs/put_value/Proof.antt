@@ -25,7 +25,7 @@ sub-leads : tie.Need-sub-leads Inv-loop μ-loop
 sub-leads c = omega (arith, c .arg-end .ensures 0 [])
 
 loop-holds : tie.Need-loop-holds Inv-loop μ-loop
-loop-holds c = 
+loop-holds c =
     let s = c .before .before .before .before in let a = s .args in
     writing-none (a .base) (now (a .contents)) (now (a .toks)) (now (a .out)) (s .pre) (c .arg-end .ensures)
 
@@ -42,7 +42,7 @@ sep-kind-requires : tie.Need-sep-kind-requires Inv-loop μ-loop
 sep-kind-requires c κs = search needs
 
 last-of-requires : tie.Need-last-of-requires Inv-loop μ-loop
-last-of-requires c κs = 
+last-of-requires c κs =
     let d = c .before .before .before in
     omega (arith, d .before .before .loop .inv .between .short, d .before .count .ensures, d .if1 .taken)
 
@@ -65,7 +65,7 @@ room : (c : tie.After-front-of Inv-loop μ-loop) →
     let d = c .before .before .before .before .before in let l = d .before .before .loop in
     let a = d .before .before .before .before .before .before .before .args in
     l .k + length (elementBytes (a .base) (now (a .contents)) (now (a .toks)) (c .before .before .before .before .later .result) (c .front-of .result)
-      (d .before .before .before .arg-end .result - 1) (c .before .last-of .result)) ≤ length (l .out)
+    (d .before .before .before .arg-end .result - 1) (c .before .last-of .result)) ≤ length (l .out)
 room c =
     let d = c .before .before .before .before .before in let l = d .before .before .loop in
     let s = d .before .before .before .before .before .before .before in let a = s .args in
@@ -81,22 +81,22 @@ part-put-element-end : tie.Need-part-put-element-end Inv-loop μ-loop
 part-put-element-end c = search needs
 
 put-element-requires : tie.Need-put-element-requires Inv-loop μ-loop
-put-element-requires c κs = 
+put-element-requires c κs =
     let m = meets (c .before) in let l = c .before .before .before .before .before .before .before .before .loop in
     (m .front, m .last, omega (arith, length-part (l .out) (l .k), room (c .before)))
 
 add-k : tie.Need-add-k Inv-loop μ-loop
-add-k c = 
+add-k c =
     let r = c .before .before .before .before in
     omega (arith, c .before .before .put-element .ensures .0, room r, c .before .before .before .before .before .before .before .before .before .before .before .loop .inv .long, c .before .before .before .before .before .before .before .before .before .before .before .before .before .before .before .before .good .0 .0)
 
 loop-less : tie.Need-loop-less Inv-loop μ-loop
-loop-less c = 
+loop-less c =
     let r = c .before .before .before .before in let d = c .before .before .before .before .before .before .before .before .before in
     omega (arith, meets r .on, d .before .count .ensures, d .if1 .taken)
 
 loop-again : tie.Need-loop-again Inv-loop μ-loop
-loop-again c = 
+loop-again c =
     let s = c .before .before .before .before .before .before .before .before .before .before .before .before .before .before .before .before in let a = s .args in
     writing-more (a .base) (now (a .contents)) (now (a .toks)) (now (a .out)) (s .pre) (c .before .before .before .before .before .before .before .before .before .before .before .loop .inv) (meets (c .before .before .before .before)) (c .before .before .put-element .ensures .0) (c .before .before .put-element .ensures .1)
 
@@ -104,7 +104,7 @@ same-length : tie.Need-same-length Inv-loop μ-loop
 same-length c = c .before .before .loop .inv .long
 
 returns : tie.Need-returns Inv-loop μ-loop
-returns c = 
+returns c =
     let s = c .before .before .before .before .before .before .before in let a = s .args in
     writing-end (a .base) (now (a .contents)) (now (a .toks)) (now (a .out)) (s .pre) (c .before .before .loop .inv) (c .before .count .ensures) (c .if1 .left)
 

@@ -1,0 +1,3 @@
+pub mod TallyLaws
+pub mod TurnLaws
+pub mod CommandLaws

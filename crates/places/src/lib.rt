@@ -1,0 +1,148 @@
+// One place of a command: 15, 9, its name (10), its value (11 to 16), and the bytes of its fields.
+use bases;
+use elements::Value;
+use measure;
+use parts;
+use pieces;
+use table;
+use table::Verdict;
+use values;
+ghost use Prim.Native.Nat.{_<_};
+ghost use mathlib.Core.Path.{_≡_};
+ghost use lib.ListN.{length};
+ghost use Rattle.rules.specs.Commands.{seg};
+ghost use Rattle.rules.specs.Groups.{readValue};
+ghost use Rattle.rules.specs.Reading.{readPosition, readNamed, readPlace};
+ghost use Rattle.table.specs.Table.{tokensIn};
+ghost use Rattle.values.specs.Passes.{Faultless};
+ghost use Rattle.bases.specs.Bases.{basesIn, baseIn};
+ghost use Rattle.parts.specs.Parts.{placeOr};
+ghost use Rattle.places.specs.Places.{valueRead, placeRead, cutIn, Sized};
+
+// The kind of `=`.
+const EQUALS: u8 = 8;
+
+// "33rd place of the command"
+const MOST_PLACES: usize = 32;
+// "A name is 1 to 4 pieces": so many behind the first.
+const MORE_OF_NAME: usize = 3;
+// The bytes of a place's own field: tag, length, letter.
+const PLACE_FIELD: u32 = 4;
+
+// 9: kind differs.
+const KIND_DIFFERS: u8 = 9;
+// 10: name wrong.
+const WRONG_NAME: u8 = 10;
+// 15: one too many.
+const TOO_MANY: u8 = 15;
+
+// A place that is right: its number of arguments, the place of its value's first token, the bytes of its fields. Or a refusal.
+pub enum PlaceRead {
+    Fine { args: u32, at: u32, bytes: u32 },
+    Refused { no: u8, place: u32 },
+}
+
+// The bytes of a value without fault, behind `head` bytes.
+fn with_value(toks: &[u64], contents: &[u8], base: u8, head: u32) -> u32
+    requires { ⌜ Faultless (now toks) (now contents) base ⌝ }
+    ensures { λ r. ⌜ Sized (now (toks .entry)) (now (contents .entry)) base head r ⌝ }
+{
+    let len = parts::cap(measure::value_len(toks, contents, base) as u64);
+    parts::cap(head as u64 + len as u64)
+}
+
+// The value of the n-th place, not omitted, behind `head` bytes of its place's fields.
+fn value(toks: &[u64], contents: &[u8], bases: &[u8], n: usize, head: u32, end: u32) -> PlaceRead
+    ensures { λ r. ⌜ r ≡ valueRead head (placeOr (now (toks .entry)) end)
+        (readValue (baseIn (now (bases .entry)) n) (tokensIn (now (contents .entry)) (now (toks .entry))) end) ⌝ }
+{
+    let base = bases::base(bases, n);
+    match values::read_value(toks, contents, base, end) {
+        Value::Wrong { no, place } => PlaceRead::Refused { no, place },
+        Value::Elements { count, args } => PlaceRead::Fine {
+            args: args as u32,
+            at: table::place(toks[0]),
+            bytes: with_value(toks, contents, base, head),
+        },
+    }
+}
+
+// The n-th place, position-defined.
+fn position(toks: &[u64], contents: &[u8], bases: &[u8], n: usize, end: u32) -> PlaceRead
+    ensures { λ r. ⌜ r ≡ placeRead (readPosition (baseIn (now (bases .entry)) n) (tokensIn (now (contents .entry)) (now (toks .entry))) end) ⌝ }
+{
+    if toks.len() == 0 {
+        return PlaceRead::Fine {
+            args: 1,
+            at: end,
+            bytes: PLACE_FIELD,
+        };
+    }
+    value(toks, contents, bases, n, PLACE_FIELD, end)
+}
+
+// The n-th place, named: its `=` is the token at index `equals`.
+fn named_place(
+    toks: &[u64],
+    contents: &[u8],
+    bases: &[u8],
+    n: usize,
+    equals: usize,
+    end: u32,
+) -> PlaceRead
+    requires { ⌜ equals < length (now toks) ⌝ }
+    ensures { λ r. ⌜ r ≡ placeRead (readNamed (baseIn (now (bases .entry)) n) (cutIn (now (contents .entry)) (now (toks .entry)) equals) end) ⌝ }
+{
+    match pieces::pieces(
+        &toks[..equals],
+        contents,
+        true,
+        MORE_OF_NAME,
+        WRONG_NAME,
+        table::place(toks[equals]),
+    ) {
+        Verdict::Refused { no, place } => PlaceRead::Refused { no, place },
+        Verdict::Fine => {
+            let head = parts::cap(
+                PLACE_FIELD as u64 + parts::pieces_len(&toks[..equals], contents) as u64,
+            );
+            value(&toks[equals + 1..], contents, bases, n, head, end)
+        }
+    }
+}
+
+// The n-th place of a command, in a block whose places are named or not.
+pub fn place(
+    toks: &[u64],
+    contents: &[u8],
+    bases: &[u8],
+    named: bool,
+    n: usize,
+    end: u32,
+) -> PlaceRead
+    ensures { λ r. ⌜ r ≡ placeRead (readPlace named (basesIn (now (bases .entry))) n (seg (tokensIn (now (contents .entry)) (now (toks .entry))) end)) ⌝ }
+{
+    if MOST_PLACES <= n {
+        return PlaceRead::Refused {
+            no: TOO_MANY,
+            place: parts::place_at(toks, 0, end),
+        };
+    }
+    let equals = parts::find(toks, 0, EQUALS);
+    if equals < toks.len() {
+        if named {
+            return named_place(toks, contents, bases, n, equals, end);
+        }
+        return PlaceRead::Refused {
+            no: KIND_DIFFERS,
+            place: parts::place_at(toks, 0, end),
+        };
+    }
+    if named {
+        return PlaceRead::Refused {
+            no: KIND_DIFFERS,
+            place: parts::place_at(toks, 0, end),
+        };
+    }
+    position(toks, contents, bases, n, end)
+}
