@@ -1,0 +1,31 @@
+use borrow.Author.Needs.{needs}
+use Rattle.judged_elements.specs.Elements.{joins}
+use Prim.Native.Nat.{_+_}
+use native.Mathlib.Omega.{arith}
+use borrow.Author.Tests.{le-leb, lt-leb, lt-ltb, le-ltb, eq-eqb, ne-eqb}
+use Rattle.judged_elements.proofs.joins.Statement.{statement}
+use Rattle.judged_elements.proofs.joins.Tie as tie
+use Rattle.judged_elements.proofs.joins.Reads as reads
+use Rattle.judged_elements.proofs.joins.Lts as lts
+
+-- src/lib.rt:156:8
+sub-if1 : tie.Need-sub-if1
+sub-if1 c = search needs
+
+-- src/lib.rt:157:9
+returns : tie.Need-returns
+unfolding joins
+returns c = let a = c .before .args in rw (lt-leb (a .arguments + (a .more + 1)) 4096 (omega arith))
+
+-- src/lib.rt:152:1
+returns-2 : tie.Need-returns-2
+unfolding joins
+returns-2 c = let a = c .before .before .args in rw (le-leb (a .arguments + (a .more + 1)) 4096 (omega arith), eq-eqb _ _ (c .if2 .taken))
+
+-- src/lib.rt:152:1
+returns-3 : tie.Need-returns-3
+unfolding joins
+returns-3 c = let a = c .before .before .args in rw (le-leb (a .arguments + (a .more + 1)) 4096 (omega arith), ne-eqb _ _ (c .if2 .left))
+
+pub joins-spec : {M : Type 1} → statement M
+joins-spec = tie.close (tie.spec sub-if1 returns returns-2 returns-3)

@@ -1,0 +1,4 @@
+pub mod PieceLaws
+pub mod PlaceLaws
+pub mod PieceBytes
+pub mod PlaceBytes

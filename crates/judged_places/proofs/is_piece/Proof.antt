@@ -1,0 +1,38 @@
+use borrow.Author.Needs.{needs}
+use Rattle.judged_places.proofs.PieceLaws.{piece-name, piece-plain, piece-empty, piece-index}
+use denote.Ref.{now}
+use Rattle.judged_places.proofs.is_piece.Statement.{statement}
+use Rattle.judged_places.proofs.is_piece.Tie as tie
+use Rattle.judged_places.proofs.is_piece.Reads as reads
+use Rattle.judged_places.proofs.is_piece.Lts as lts
+use Rattle.units.proofs.all_decimal.Reads as all-decimal-reads
+use Rattle.units.proofs.is_identifier.Reads as is-identifier-reads
+
+-- src/lib.rt:30:8
+is-identifier-requires : tie.Need-is-identifier-requires
+is-identifier-requires c κs = search needs
+
+-- src/lib.rt:31:9
+returns : tie.Need-returns
+returns c = piece-name _ _ (c .before .is-identifier .ensures) (c .if1 .taken)
+
+-- src/lib.rt:35:13
+returns-2 : tie.Need-returns-2
+returns-2 c = piece-empty _ _ (c .if3 .taken)
+
+-- src/lib.rt:37:9
+all-decimal-requires : tie.Need-all-decimal-requires
+all-decimal-requires c κs = search needs
+
+-- src/lib.rt:37:9
+returns-3 : tie.Need-returns-3
+returns-3 c = piece-index _ _ (c .before .before .before .before .is-identifier .ensures) (c .before .before .before .if1 .left) (c .before .before .if2 .taken) (c .before .if3 .left) (c .all-decimal .ensures)
+
+-- src/lib.rt:27:1
+returns-4 : tie.Need-returns-4
+returns-4 c = piece-plain _ _ (c .before .before .is-identifier .ensures) (c .before .if1 .left) (c .if2 .left)
+
+pub is-piece-spec : {M : Type 1} → statement M
+is-piece-spec =
+    tie.close
+    (tie.spec is-identifier-requires returns returns-2 all-decimal-requires returns-3 returns-4)

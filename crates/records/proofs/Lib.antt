@@ -1,0 +1,5 @@
+pub mod PlacesLaws
+pub mod BlocksLaws
+pub mod PlacesBytes
+pub mod RecordBytes
+pub mod JudgeLaws

@@ -1,0 +1,81 @@
+-- Blocks and the whole record, read from the front of bytes: each field as document 01's rules read it, and the rules and limits on each met at once.
+use mathlib.Core.Bool.{Bool, true, false, _||_, not}
+use mathlib.Core.List.{List, [], _∷_}
+use mathlib.Core.Option.{Option, none, some}
+use Prim.Native.Nat.{ℕ, suc, _+_, _-_, _*_}
+use lib.Dec.{leb, eqb}
+use lib.ListN.{length}
+use Rattle.laws.specs.Cases.{pick}
+use Rattle.laws.specs.Lists.{isNil}
+use Rattle.rules.specs.Refusals.{moreOfCode, mostBlocks, mostPlaces, mostOrders}
+use Rattle.rules.specs.Commands.{Place, placeCount, Block, block, placesOf, Command, command}
+use Rattle.rules.specs.Records.{Field, field, kindOfByte}
+use Rattle.rules.specs.Orders.{blockCount}
+use Rattle.walk.specs.Fronts.{Read, andThen, only, made, front, several}
+use Rattle.judged_places.specs.Places.{isTag, pieces, onePlace}
+
+-- ---- the places of a block
+
+-- the orders of the places before, times the place's arguments: at most 65,535
+unfoldable pub nextPlace : Bool → ℕ → List ℕ → Read Place
+nextPlace named o r = only (λ p. leb (o * placeCount p) mostOrders) (onePlace named r)
+
+abbrev pub withPlace : ℕ → Place → ℕ
+withPlace o p = o * placeCount p
+
+-- at most n places
+abbrev pub somePlaces : Bool → ℕ → ℕ → List ℕ → Read (List Place)
+somePlaces named n o r = several (isTag 3) (nextPlace named) withPlace n o r
+
+-- "Nothing after `:` is one omitted place.": a block has a place
+unfoldable pub places : Bool → ℕ → ℕ → List ℕ → Read (List Place)
+places named n o r = only (λ ps. not (isNil ps)) (somePlaces named n o r)
+
+-- ---- a block: tag 2
+
+unfoldable pub isKind : ℕ → Bool
+isKind c = eqb c 78 || eqb c 80
+
+abbrev pub kindIn : Field → Option Bool
+kindIn (field t w) = kindOfByte w
+
+-- the blocks before: their places, their orders
+pub record Before : Type 0 where
+  pub places : ℕ
+  pub orders : ℕ
+
+unfoldable pub nextBlock : Before → List ℕ → Read Block
+nextBlock s r =
+    andThen (front r)
+    (λ f r₁. andThen (made (kindIn f) r₁) (λ k r₂. andThen (places k (mostPlaces - s .places) (s .orders) r₂) (λ ps r₃. some (block k ps, r₃))))
+
+abbrev pub withBlock : Before → Block → Before
+withBlock s b = record { places = s .places + length (placesOf b); orders = s .orders * blockCount b }
+
+abbrev pub noneBefore : Before
+noneBefore = record { places = 0; orders = 1 }
+
+abbrev pub someBlocks : List ℕ → Read (List Block)
+someBlocks r = several (isTag 2) nextBlock withBlock mostBlocks noneBefore r
+
+-- ---- the record
+
+-- nothing may stand behind
+abbrev pub ending : {A : Type 0} → Read A → Option A
+ending none = none
+ending (some x) = pick (isNil (x .1)) (some (x .0)) none
+
+unfoldable pub blocks : List ℕ → Option (List Block)
+blocks r = ending (someBlocks r)
+
+abbrev pub withBlocks : List (List ℕ) → Option (List Block) → Option Command
+withBlocks c none = none
+withBlocks c (some bs) = some (command c bs)
+
+-- a code has a piece
+abbrev pub withCode : Read (List (List ℕ)) → Option Command
+withCode none = none
+withCode (some x) = pick (isNil (x .0)) none (withBlocks (x .0) (blocks (x .1)))
+
+unfoldable pub recordIn : List ℕ → Option Command
+recordIn r = withCode (pieces 1 false (suc moreOfCode) r)

@@ -1,0 +1,173 @@
+// The judge of a whole record, in one walk: whether it is well formed, the number of arguments of each place, the number of orders.
+ghost use mathlib.Core.Path.{_≡_};
+ghost use Prim.Native.Nat.{_≤_};
+ghost use lib.ListN.{length, drop};
+ghost use Rattle.rules.specs.Answers.{Counts};
+ghost use Rattle.walk.specs.Fronts.{tagOf};
+ghost use Rattle.records.specs.Blocks.{isKind};
+ghost use Rattle.records.specs.Judged.{IsPlaces, IsBlock, IsBlocks, Judges};
+
+// The tags of code pieces, blocks and places.
+const CODE: u8 = 1;
+
+const BLOCK: u8 = 2;
+
+const PLACE: u8 = 3;
+
+// Places: how many with those before, the orders with those before, and where the next field begins.
+pub enum Places {
+    Are {
+        number: usize,
+        orders: u32,
+        next: usize,
+    },
+    Bad,
+}
+
+// A record: its number of places and of orders; or not well formed.
+pub enum Judged {
+    Good { places: usize, total: u32 },
+    Bad,
+}
+
+// The places of a block, from behind its field on: at least one, at most 32 with those before, and no more than 65,535 orders.
+pub fn judge_places(
+    rec: &[u8],
+    from: usize,
+    named: bool,
+    number: usize,
+    orders: u32,
+    counts: &mut [u32; 32],
+) -> Places
+    requires { ⌜ (from ≤ length (now rec)) × (number ≤ 32) × (orders ≤ 65535) × (length (now counts) ≡ 32) ⌝ }
+    ensures { λ r. ⌜ IsPlaces named (now (rec .entry)) from number orders (now (counts .entry)) (now (counts .exit)) r ⌝ }
+{
+    let mut at = from;
+    let mut places = number;
+    let mut total = orders;
+    while walk::tag_at(rec, at) == PLACE {
+        if places == 32 {
+            return Places::Bad;
+        }
+        let judged_places::OnePlace::Is { count, next } = judged_places::judge_place(rec, at, named)
+        else {
+            return Places::Bad;
+        };
+        total = total * count;
+        if 65535 < total {
+            return Places::Bad;
+        }
+        counts[places] = count;
+        places += 1;
+        at = next;
+    }
+    if places == number {
+        return Places::Bad;
+    }
+    Places::Are {
+        number: places,
+        orders: total,
+        next: at,
+    }
+}
+
+// Whether the byte is a kind of block.
+pub fn is_kind(kind: u8) -> bool
+    ensures { λ r. ⌜ r ≡ isKind kind ⌝ }
+{
+    kind == b'N' || kind == b'P'
+}
+
+// The block that stands at a position: its field, and its places from behind the field on.
+pub fn judge_block(
+    rec: &[u8],
+    at: usize,
+    number: usize,
+    orders: u32,
+    counts: &mut [u32; 32],
+) -> Places
+    requires { ⌜ (tagOf (drop at (now rec)) ≡ 2) × (number ≤ 32) × (orders ≤ 65535) × (length (now counts) ≡ 32) ⌝ }
+    ensures { λ r. ⌜ IsBlock (now (rec .entry)) at number orders (now (counts .entry)) (now (counts .exit)) r ⌝ }
+{
+    let walk::Step::Field {
+        tag: _,
+        start,
+        len: _,
+        next,
+    } = (walk::Walk { at: at }).next(rec)
+    else {
+        return Places::Bad;
+    };
+    let kind = rec[start];
+    let first = next.at;
+    if is_kind(kind) {
+        return judge_places(rec, first, kind == b'N', number, orders, counts);
+    }
+    Places::Bad
+}
+
+// The blocks that stand from a position to the record's end: at most 8.
+pub fn judge_blocks(rec: &[u8], from: usize, counts: &mut [u32; 32]) -> Judged
+    requires { ⌜ (from ≤ length (now rec)) × (length (now counts) ≡ 32) ⌝ }
+    ensures { λ r. ⌜ IsBlocks (now (rec .entry)) from (now (counts .exit)) r ⌝ }
+{
+    let mut at = from;
+    let mut left = 8usize;
+    let mut places = 0usize;
+    let mut total = 1u32;
+    while walk::tag_at(rec, at) == BLOCK {
+        if left == 0 {
+            return Judged::Bad;
+        }
+        let Places::Are {
+            number,
+            orders,
+            next,
+        } = judge_block(rec, at, places, total, counts)
+        else {
+            return Judged::Bad;
+        };
+        places = number;
+        total = orders;
+        at = next;
+        left -= 1;
+    }
+    if at < rec.len() {
+        return Judged::Bad;
+    }
+    Judged::Good {
+        places: places,
+        total: total,
+    }
+}
+
+// Whether the bytes are a well-formed record; if so, the numbers of arguments of its places stand in `counts`, in order.
+pub fn judge(rec: &[u8], counts: &mut [u32; 32]) -> Judged
+    requires { ⌜ length (now counts) ≡ 32 ⌝ }
+    ensures { λ r. ⌜ Judges (now (rec .entry)) (now (counts .exit)) r ⌝ }
+{
+    let judged_places::Pieces::Are { count, next } = judged_places::judge_pieces(
+        rec,
+        0,
+        CODE,
+        3,
+        false,
+    ) else {
+        return Judged::Bad;
+    };
+    if count == 0 {
+        return Judged::Bad;
+    }
+    judge_blocks(rec, next, counts)
+}
+
+// The number of orders of a record.
+pub fn count(rec: &[u8]) -> rules::Answer
+    ensures { λ r. ⌜ Counts (now (rec .entry)) r ⌝ }
+{
+    let mut counts = [0u32; 32];
+    match judge(rec, &mut counts) {
+        Judged::Good { places: _, total } => rules::Answer::Done(total),
+        Judged::Bad => rules::Answer::Refused(18, 0),
+    }
+}
