@@ -1,0 +1,4 @@
+pub mod UnitTexts
+pub mod PrintLaws
+pub mod StepLaws
+pub mod EndLaws
