@@ -1,0 +1,5 @@
+pub mod PositionLaws
+pub mod StretchLaws
+pub mod ReduceLaws
+pub mod SizeLaws
+pub mod AnswerLaws
