@@ -21,7 +21,7 @@ use Rattle.pieces.specs.Pieces.{piecesAt}
 use Rattle.parts.specs.Parts.{before, placeOr, partsFrom, wordsIn, wordsSize, capped}
 use Rattle.parts.proofs.FindLaws.{parts-all, parts-next, cut-at, cut-none}
 use Rattle.parts.proofs.WordLaws.{pieces-words, words-bytes, cap-cap, cap-most, cap-small}
-use Rattle.places.proofs.PlaceLaws.{bytes-cat, verdict-ok, verdict-bad}
+use Rattle.places.proofs.PlaceLaws.{bytes-length, verdict-ok, verdict-bad}
 use Rattle.blocks.specs.Blocks.{counted, opened, tallyPlaces, tallyBlocks, blocksRead, tallyRead, commandRead}
 use Rattle.blocks.specs.declared.Tally.{Tally}
 use Rattle.blocks.specs.declared.Tallied.{Tallied}
@@ -45,7 +45,7 @@ abbrev pub begun : ℕ → Tally
 begun z = record { places = 0; bytes = z; product = 1; over = false; at = 0 }
 
 code-size : (c : List (List ℕ)) (xs : List PlacedBlock) → length (encode (command c (map blockOf xs))) ≡ wordsSize c + blocksSize xs
-code-size c xs = rw (bytes-cat (map (λ w. field 1 w) c) (many blockFields (map blockOf xs)), words-bytes 1 c)
+code-size c xs = rw (bytes-length (map (λ w. field 1 w) c) (many blockFields (map blockOf xs)), words-bytes 1 c)
 
 tally-end : (c : List (List ℕ)) (xs : List PlacedBlock) (z : ℕ) → z ≡ capped (wordsSize c)
     → tallyRead (Fine (tallyBlocks (begun z) xs)) ≡ commandRead (runningBlocks 1 xs >>= λ _. ok (command c (map blockOf xs)))

@@ -15,7 +15,7 @@ use Rattle.rules.specs.Refusals.{Res, ok, bad, _>>=_, tooManyOrders}
 use Rattle.parts.specs.Parts.{capped}
 use Rattle.parts.proofs.WordLaws.{cap-cap}
 use Rattle.places.specs.Places.{placeSize}
-use Rattle.places.proofs.PlaceLaws.{bytes-cat, cap-right}
+use Rattle.places.proofs.PlaceLaws.{bytes-length, cap-right}
 use Rattle.blocks.specs.Blocks.{counted, opened, tallyPlaces, tallyBlocks}
 use Rattle.blocks.specs.declared.Tally.{Tally}
 
@@ -68,10 +68,10 @@ bytes-places t (placed p x ∷ xs) =
     let q : t .bytes + capped (placeSize x) + n ≡ t .bytes + n + capped (placeSize x) = omega arith in
     let s : t .bytes + n + placeSize x ≡ t .bytes + (placeSize x + n) = omega arith in
     bytes-places (counted t (placeCount x) p (capped (placeSize x))) xs
-    ∙ rw (cap-cap (t .bytes + capped (placeSize x)) n, q, cap-right (t .bytes + n) (placeSize x), s, bytes-cat (placeFields x) (many placeFields (map unplaced xs)))
+    ∙ rw (cap-cap (t .bytes + capped (placeSize x)) n, q, cap-right (t .bytes + n) (placeSize x), s, bytes-length (placeFields x) (many placeFields (map unplaced xs)))
 
 block-size : (k : Bool) (xs : List Placed) (bs : List PlacedBlock) → blocksSize (placedBlock k xs ∷ bs) ≡ 4 + (placesSize xs + blocksSize bs)
-block-size k xs bs = rw (bytes-cat (many placeFields (map unplaced xs)) (many blockFields (map blockOf bs))) (omega arith)
+block-size k xs bs = rw (bytes-length (many placeFields (map unplaced xs)) (many blockFields (map blockOf bs))) (omega arith)
 
 pub bytes-blocks : (t : Tally) (bs : List PlacedBlock) → capped ((tallyBlocks t bs) .bytes) ≡ capped (t .bytes + blocksSize bs)
 bytes-blocks t [] = let z : t .bytes + 0 ≡ t .bytes = omega arith in rw z

@@ -151,7 +151,7 @@ fn read_places(
 }
 
 // Does the block's first place have a `=`?
-fn is_named(toks: &[u64]) -> bool
+pub fn is_named(toks: &[u64]) -> bool
     ensures { λ r. ⌜ HasKind (now (toks .entry)) r ⌝ }
 {
     let k = parts::find(toks, 0, COMMA);

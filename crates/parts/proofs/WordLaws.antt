@@ -1,5 +1,5 @@
 -- The pieces of a code or a name that is not refused are the contents of every other token; and sizes that are capped at each turn are capped at the end.
-use Prim.Native.Nat.{ℕ, zero, suc, _+_, _-_, _≤_, _<_}
+use Prim.Native.Nat.{ℕ, zero, suc, _+_, _≤_, _<_}
 use mathlib.Core.Path.{_≡_, refl, sym, ap, ap₂, _∙_}
 use mathlib.Core.Bool.{Bool, true, false, cond}
 use mathlib.Core.List.{List, [], _∷_, map}
@@ -7,7 +7,7 @@ use mathlib.Core.Option.{some}
 use native.Mathlib.Omega.{arith}
 use borrow.Author.Tests.{leb-true, leb-false, le-leb, lt-leb}
 use lib.Dec.{leb, ltb, eqb}
-use lib.ListN.{length, getD, take, drop, length-append, length-take, length-drop, drop-of-length-le}
+use lib.ListN.{length, getD, drop, length-append, drop-of-length-le}
 use lib.Seq.{drop-drop}
 use Rattle.laws.specs.Cases.{byBool, byOption, none≢some, cond-some}
 use Rattle.laws.specs.Lists.{next}
@@ -16,8 +16,7 @@ use Rattle.rules.specs.Records.{field, fieldBytes, bytesOf}
 use Rattle.rules.specs.Refusals.{ok}
 use Rattle.rules.specs.Tokens.{dash}
 use Rattle.rules.proofs.ResultLaws.{ok-inj, ok≢bad, map-ok}
-use Rattle.table.specs.Table.{kindIn, contentIn, lexOfKind, tokensIn, fromIn, sizeIn, startIn, endIn}
-use Rattle.table.proofs.PartLaws.{content-part, start-end, end-inside}
+use Rattle.table.specs.Table.{kindIn, contentIn, lexOfKind, tokensIn}
 use Rattle.parts.specs.Parts.{wordsIn, wordsSize, capped}
 
 -- ---- pieces
@@ -57,17 +56,6 @@ unfolding wordsIn
 words-next cs ts i h =
     let two : i + 1 + 1 ≡ i + 2 = omega arith in
     rw (next ts i h, words-behind cs (drop (i + 1) ts), drop-drop 1 (i + 1) ts, two)
-
--- the part of the contents that a token has is as long as from its start to its end
-pub content-length : (cs : List ℕ) (t : ℕ) {a b : ℕ} → a ≡ endIn t (length cs) → b ≡ startIn t (length cs) → a - b ≡ length (contentIn cs t)
-content-length cs t {a} {b} p q =
-    let n = length cs in
-    let h = start-end t n in let g = end-inside t n in
-    rw (p, q, ← content-part cs t, length-take, length-drop) (omega arith)
-
-pub content-small : (cs : List ℕ) (t : ℕ) {n : ℕ} → n ≡ length (contentIn cs t) → n < 65536
-unfolding contentIn sizeIn
-content-small cs t q = omega (arith, q, length-take (sizeIn t) (drop (fromIn t) cs))
 
 -- ---- sizes
 

@@ -31,6 +31,7 @@ use Rattle.elements.specs.declared.Value.{Value}
 use Rattle.elements.specs.declared.Value.the-variants.{Elements, Wrong as WrongValue}
 use Rattle.values.specs.Passes.{Faultless}
 use Rattle.measure.specs.Measure.{ValueLen}
+use Rattle.measure.proofs.BytesLaws.{bytes-append}
 use Rattle.places.specs.Places.{valueSize, placeSize, valueRead, placeRead, Sized, cutIn}
 use Rattle.places.specs.declared.PlaceRead.{PlaceRead}
 use Rattle.places.specs.declared.PlaceRead.the-variants.{Fine, Refused}
@@ -109,13 +110,11 @@ value-fine ts cs l b h e a {p} {z} g m q w =
 
 -- ---- the bytes of a place's fields
 
-pub bytes-cat : (xs ys : List Field) → length (bytesOf (xs ++ ys)) ≡ length (bytesOf xs) + length (bytesOf ys)
-bytes-cat [] ys = omega arith
-bytes-cat (x ∷ xs) ys =
-    rw (length-append (fieldBytes x) (bytesOf (xs ++ ys)), length-append (fieldBytes x) (bytesOf xs), bytes-cat xs ys) (omega arith)
+pub bytes-length : (xs ys : List Field) → length (bytesOf (xs ++ ys)) ≡ length (bytesOf xs) + length (bytesOf ys)
+bytes-length xs ys = rw (bytes-append xs ys) (length-append (bytesOf xs) (bytesOf ys))
 
 pub place-size : (b : Base) (nm : List (List ℕ)) (v : List Element) → placeSize (place b nm v) ≡ 4 + wordsSize nm + valueSize v
-place-size b nm v = rw (bytes-cat (map (λ w. field 4 w) nm) (many elementFields v), words-bytes 4 nm) (omega arith)
+place-size b nm v = rw (bytes-length (map (λ w. field 4 w) nm) (many elementFields v), words-bytes 4 nm) (omega arith)
 
 -- ---- by position
 

@@ -1,7 +1,6 @@
 use borrow.Author.Needs.{needs}
-use lib.ListN.{length}
-use Rattle.parts.proofs.WordLaws.{content-length}
-use Rattle.table.proofs.PartLaws.{start-end}
+use denote.Ref.{now}
+use Rattle.table.proofs.ContentLaws.{cuts}
 use native.Mathlib.Omega.{arith}
 use mathlib.Core.Path.{_≡_}
 use Rattle.parts.proofs.content_len.Statement.{statement}
@@ -21,11 +20,11 @@ start-requires c κs = search needs
 
 -- src/lib.rt:53:5
 sub-result : tie.Need-sub-result
-sub-result c = omega (arith, start-end (c .before .before .before .args .t) (length (c .before .before .before .args .contents .now)), c .before .end .ensures, c .start .ensures)
+sub-result c = (cuts (now (c .before .before .before .args .contents)) (c .before .before .before .args .t) (c .start .ensures) (c .before .end .ensures)) .ordered
 
 -- src/lib.rt:50:1
 returns : tie.Need-returns
-returns c = content-length (c .before .before .before .args .contents .now) (c .before .before .before .args .t) (c .before .end .ensures) (c .start .ensures)
+returns c = (cuts (now (c .before .before .before .args .contents)) (c .before .before .before .args .t) (c .start .ensures) (c .before .end .ensures)) .size
 
 pub content-len-spec : {M : Type 1} → statement M
 content-len-spec = tie.close (tie.spec end-requires start-requires sub-result returns)

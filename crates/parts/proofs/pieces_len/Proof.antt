@@ -1,6 +1,7 @@
 use borrow.Author.Needs.{needs}
+use Rattle.table.proofs.ContentLaws.{content-small}
 use lib.ListN.{getD}
-use Rattle.parts.proofs.WordLaws.{size-more, size-end, content-small, cap-most}
+use Rattle.parts.proofs.WordLaws.{size-more, size-end, cap-most}
 use Rattle.parts.specs.Parts.{capped, wordsSize, wordsIn}
 use native.Mathlib.Omega.{arith}
 use mathlib.Core.Bool.{true}
@@ -46,7 +47,7 @@ content-len-requires c κs = search needs
 
 -- src/lib.rt:63:20
 add-cap-2 : tie.Need-add-cap-2 Inv-loop μ-loop
-add-cap-2 c = omega (arith, content-small (c .before .before .before .before .before .before .args .contents .now) (getD (c .before .before .before .before .before .before .args .toks .now) (c .before .before .before .loop .i) 0) (c .content-len .ensures))
+add-cap-2 c = omega (arith, c .content-len .ensures, content-small (c .before .before .before .before .before .before .args .contents .now) (getD (c .before .before .before .before .before .before .args .toks .now) (c .before .before .before .loop .i) 0))
 
 -- src/lib.rt:63:9
 cap-requires : tie.Need-cap-requires Inv-loop μ-loop
