@@ -15,9 +15,10 @@ use Rattle.rules.specs.Refusals.{ok, mapR}
 use Rattle.rules.specs.Units.{Unit}
 use Rattle.rules.proofs.ResultLaws.{ok-inj, ok≢bad, bind-ok, map-ok}
 use Rattle.groups.specs.Joins.{joinsIn, kindAt, unitsFrom, groupsAt, dashesAt, nextAt, beginsKind}
-use Rattle.groups.specs.Answers.{elementAnswer, ArgEnd, Later, groupAt}
+use Rattle.groups.specs.Answers.{elementAnswer, ArgEnd}
+use Rattle.elements.specs.Shapes.{Later, groupAt}
 use Rattle.groups.specs.declared.Shape.{Shape}
-use Rattle.groups.proofs.JoinLaws.{joins-length, group-end, group-more, groups-next, begins-next, dashes-inside, items-length}
+use Rattle.groups.proofs.JoinLaws.{joins-length, group-end, group-more, groups-next, begins-next, dashes-inside, units-length}
 use Rattle.elements.proofs.WalkLaws.{elements-later, elements-long, starts-first}
 use Rattle.elements.proofs.StandLaws.{frontAt, Stands, later-stands}
 
@@ -91,4 +92,4 @@ module _ (js : List (Join Unit)) {k : ℕ} {done : List Element} {n f : ℕ} (b 
 -- the code's answer for it
 pub turn-answer : (js : List (Join Unit)) {k : ℕ} {done : List Element} {n f : ℕ} {x : Shape} (t : Turn js k done n f) → Later js k n x
     → x ≡ elementAnswer (nextAt js (n + 1)) (ok (t .el))
-turn-answer js {k} {done} {n} {f} t y = y (unitsFrom js f k) (items-length k js f) ∙ rw (t .is)
+turn-answer js {k} {done} {n} {f} t y = y (unitsFrom js f k) (units-length k js f) ∙ rw (t .is)

@@ -15,13 +15,14 @@ use Rattle.rules.specs.Groups.{Join, endOf, incOf, increment, upper, laterArg, 
 use Rattle.rules.specs.Refusals.{groupBroken}
 use Rattle.rules.specs.Units.{Radix, size, Unit}
 use Rattle.groups.specs.Joins.{joinsIn, kindAt, sepPlaceAt, unitAt, unitsFrom, innerAt, dashesAt, nextAt, sepKind, sepPlace, unitPlace, beginsKind}
-use Rattle.groups.specs.Answers.{endAnswer, endAt, bothEnds, stepEnd, elementAnswer, ArgEnd, NoMore, Increment, Upper, Ranged, Ordered, Later}
+use Rattle.groups.specs.Answers.{endAnswer, endAt, bothEnds, stepEnd, elementAnswer, ArgEnd, NoMore}
+use Rattle.elements.specs.Shapes.{Increment, Upper, Ranged, Ordered, Later}
 use Rattle.groups.specs.declared.End.{End}
 use Rattle.groups.specs.declared.Ends.{Ends}
 use Rattle.groups.specs.declared.Ends.the-variants.{Both, Apart}
 use Rattle.groups.specs.declared.Shape.{Shape}
 use Rattle.groups.specs.declared.Shape.the-variants.{Single, Range, Refused}
-use Rattle.groups.proofs.JoinLaws.{kind-is, sep-place-is, place-is, inner-more, inner-end, next-end, next-more, dash-more, dash-test, full-at, items-length}
+use Rattle.groups.proofs.JoinLaws.{kind-is, sep-place-is, place-is, inner-more, inner-end, next-end, next-more, dash-more, dash-test, full-at, units-length}
 use Rattle.groups.proofs.EndLaws.{step-none, step-some, ends-apart, ends-both}
 use Rattle.groups.proofs.GroupLaws.{begins-is}
 
@@ -29,9 +30,9 @@ step-yes : (r : Radix) (i : Unit) (k : ℕ) → k ≡ stepEnd (size r) (endAnswe
 step-yes r i zero h n = absurd (n refl)
 step-yes r i (suc k) h n = step-some r i k (sym h)
 
-items-nil : (d : ℕ) (js : List (Join Unit)) (n : ℕ) → isNil (unitsFrom js n d) ≡ eqb d 0
-items-nil zero js n = refl
-items-nil (suc d) js n = sym (eqb·suc-zero d)
+units-nil : (d : ℕ) (js : List (Join Unit)) (n : ℕ) → isNil (unitsFrom js n d) ≡ eqb d 0
+units-nil zero js n = refl
+units-nil (suc d) js n = sym (eqb·suc-zero d)
 
 next-dashes : (d : ℕ) (js : List (Join Unit)) (n : ℕ) → dashesAt js n ≡ d → nextAt js (n + d) ≡ nextAt js n
 next-dashes zero js n h = rw (add-zero n)
@@ -87,7 +88,8 @@ module _ (b : ℕ) (cs ts : List ℕ) (n : ℕ) where
         let d : (up - lo) / 1 ≡ up - lo = omega arith in
         rw (inner-end (joinsIn b cs ts) n y, next-end (joinsIn b cs ts) n y, d, q)
 
-    pub inc-bad : {k p : ℕ} {f : Bool} → k ≡ sepKind ts n → f ≡ beginsKind k → f ≡ false → (k ≡ 4 → ⊥) → p ≡ sepPlace ts n → Increment (joinsIn b cs ts) n z lo up (Refused groupBroken p)
+    pub inc-bad : {k p : ℕ} {f : Bool} → k ≡ sepKind ts n → f ≡ beginsKind k → f ≡ false → (k ≡ 4 → ⊥) → p ≡ sepPlace ts n
+        → Increment (joinsIn b cs ts) n z lo up (Refused groupBroken p)
     inc-bad e g h o v l r s =
         let y = begins-is b cs ts n false e g h in
         rw (inner-more (joinsIn b cs ts) n y, ne-eqb (kindAt (joinsIn b cs ts) n) 4 (λ w. o (sym (kind-of e) ∙ w)), increment, sep-place-is b cs ts n, v)
@@ -142,7 +144,7 @@ arg-upper : (js : List (Join Unit)) (m k : ℕ) (s : Bool) (x : Shape) → k ≡
     → x ≡ elementAnswer (nextAt js (m + 1)) (upper (unitsFrom js m (dashesAt js (m + 1))) (unitAt js (m + dashesAt js (m + 1))) (innerAt js (m + dashesAt js (m + 1) + 1)))
 arg-upper js m k s x e v u =
     let d = dashesAt js (m + 1) in
-    let t = u (unitsFrom js m d) (items-nil d js m ∙ sym v) in
+    let t = u (unitsFrom js m d) (units-nil d js m ∙ sym v) in
     let q1 : k - 1 ≡ m + d = omega arith in
     let q2 : k ≡ m + d + 1 = omega arith in
     let q3 : m + 1 + d ≡ m + d + 1 = omega arith in
@@ -174,7 +176,7 @@ module _ (b : ℕ) (cs ts : List ℕ) (n k : ℕ) where
       let d = dashesAt js (n + 1) in
       let w : m ≡ n + 1 + d = a b cs in
       let g : k ≡ d = omega arith in
-      rw (ne-eqb (kindAt js n) 2 (λ c. h (sym (kind-is b cs ts n) ∙ c)), later, full-at js n, items-length d js n, eq-eqb d (length l) (omega arith), laterArg)
+      rw (ne-eqb (kindAt js n) 2 (λ c. h (sym (kind-is b cs ts n) ∙ c)), later, full-at js n, units-length d js n, eq-eqb d (length l) (omega arith), laterArg)
       (arg-upper js n m s x w (v ∙ rw g) u)
 
   pub full-bad : {m p : ℕ} → (sepKind ts n ≡ 2 → ⊥) → ArgEnd ts (n + 1) m → (m - n - 1 ≡ k → ⊥) → p ≡ unitPlace ts n → Later (joinsIn b cs ts) k n (Refused groupBroken p)
@@ -183,4 +185,4 @@ module _ (b : ℕ) (cs ts : List ℕ) (n k : ℕ) where
       let d = dashesAt js (n + 1) in
       let w : m ≡ n + 1 + d = a b cs in
       let g : d ≡ length l → ⊥ = λ c. e (omega arith) in
-      rw (ne-eqb (kindAt js n) 2 (λ c. h (sym (kind-is b cs ts n) ∙ c)), later, full-at js n, items-length d js n, ne-eqb d (length l) g, laterArg, place-is b cs ts n, v)
+      rw (ne-eqb (kindAt js n) 2 (λ c. h (sym (kind-is b cs ts n) ∙ c)), later, full-at js n, units-length d js n, ne-eqb d (length l) g, laterArg, place-is b cs ts n, v)

@@ -1,76 +1,55 @@
 -- The walk: at every turn the elements behind those counted are the rules' elements from the n-th unit on.
 use Prim.Native.Nat.{ℕ, suc, _+_, _-_, _*_, _≤_, _<_}
 use mathlib.Core.Path.{_≡_, refl, sym, _∙_, ap, ap₂, subst}
-use mathlib.Core.Bool.{true, false, cond, false≢true}
-use mathlib.Core.List.{List, [], _∷_, map}
+use mathlib.Core.Bool.{true, false, false≢true}
+use mathlib.Core.List.{List, _∷_, map}
 use native.Mathlib.Omega.{arith}
 use native.Mathlib.Nat.{add-zero}
 use native.Mathlib.Numerals.{add-one}
 use borrow.Author.Tests.{eqb-true, ltb-true, ltb-false, eq-eqb, ne-eqb, le-leb, lt-leb}
-use lib.Dec.{leb, ltb, eqb}
+use lib.Dec.{ltb, eqb}
 use lib.ListN.{length}
-use Rattle.laws.specs.Cases.{Always, byBool, byOption}
+use Rattle.laws.specs.Cases.{Always, byBool}
 use Rattle.laws.specs.Lists.{isNil}
 use Rattle.rules.specs.Commands.{Element, single, range, leading, sum, terms}
-use Rattle.rules.specs.Groups.{Join, join, Group, group, endOf, ends, incOf, noMore, increment, upper, Arg, arg, firstArg, fullArg, laterArg, later, laterElements, elements, collect, groupsOf}
+use Rattle.rules.specs.Groups.{Join, Group, group, upper, Arg, arg, firstArg, fullArg, laterArg, later, laterElements, elements, collect, groupsOf}
 use Rattle.rules.specs.Refusals.{Res, ok, bad, mapR, groupBroken, tooMany}
-use Rattle.rules.specs.Tokens.{sepCode, ampamp, ampamp-, amp-, plusplus}
-use Rattle.rules.specs.Units.{Radix, Unit}
+use Rattle.rules.specs.Tokens.{sepCode, amp-}
+use Rattle.rules.specs.Units.{Unit}
 use Rattle.rules.proofs.ResultLaws.{byRes}
 use Rattle.groups.specs.Joins.{joinsIn, kindAt, unitAt, unitsFrom, innerAt, groupsAt, dashesAt, nextAt, count, sepKind, sepPlace, beginsKind}
-use Rattle.groups.specs.Answers.{elementAnswer, ArgEnd, Later, groupAt}
+use Rattle.groups.specs.Answers.{elementAnswer, ArgEnd}
+use Rattle.elements.specs.Shapes.{Later, groupAt}
 use Rattle.groups.specs.declared.Shape.{Shape}
 use Rattle.groups.specs.declared.Shape.the-variants.{Refused}
 use Rattle.elements.specs.Walk.{stepOf, valueAnswer}
 use Rattle.elements.specs.declared.Step.{Step}
 use Rattle.elements.specs.declared.Value.{Value}
 use Rattle.elements.specs.declared.Value.the-variants.{Elements, Wrong}
-use Rattle.groups.proofs.JoinLaws.{joins-length, kind-is, sep-place-is, group-end, group-more, groups-next, begins-next, dash-inside, dash-end, full-at, items-length}
+use Rattle.groups.proofs.JoinLaws.{joins-length, kind-is, sep-place-is, group-end, group-more, groups-next, begins-next, dash-inside, dash-end, full-at, units-length}
+use Rattle.elements.proofs.KeepLaws.{Keeps, upper-keeps}
 use Rattle.elements.proofs.ElementLaws.{inner-sep}
 
--- ---- an element keeps its leading units
-
-abbrev pub LeadIs : List Unit → Res Element → Type 0
-LeadIs l (ok e) = leading e ≡ l
-LeadIs l (bad n p) = Always
-
-no-more-lead : (js : List (Join Unit)) (l : List Unit) (r : Radix) (lo up k : ℕ) → LeadIs l (noMore js (range l r lo up k))
-no-more-lead [] l r lo up k = refl
-no-more-lead (join s q p i ∷ js) l r lo up k = tt
-
-increment-lead : (js : List (Join Unit)) (l : List Unit) (r : Radix) (lo up : ℕ) → LeadIs l (increment l r lo up js)
-increment-lead [] l r lo up = refl
-increment-lead (join s q p i ∷ js) l r lo up =
-    byBool (eqb (sepCode s) (sepCode plusplus))
-    (λ y. byOption (incOf r i) (λ z. rw (y, increment, z) tt) (λ k z. rw (y, increment, z) (no-more-lead js l r lo up k)))
-    (λ y. rw (y, increment) tt)
-
-pub upper-lead : (js : List (Join Unit)) (l : List Unit) (u : Unit) → LeadIs l (upper l u js)
-upper-lead [] l u = refl
-upper-lead (join s q p i ∷ js) l u =
-    byBool (eqb (sepCode s) (cond (isNil l) (sepCode ampamp) (sepCode ampamp-)))
-    (λ y. byOption (ends (endOf u) (endOf i)) (λ z. rw (y, upper, z) tt)
-    (λ x z. byBool (leb (x .1) (x .2)) (λ w. rw (y, upper, z, w) (increment-lead js l (x .0) (x .1) (x .2))) (λ w. rw (y, upper, z, w) tt)))
-    (λ y. rw (y, upper) tt)
+-- ---- an element has as many leading units as the one before
 
 abbrev LeadLong : ℕ → Res Element → Type 0
 LeadLong k (ok e) = length (leading e) ≡ k
 LeadLong k (bad n p) = Always
 
-lead-long : (l : List Unit) (k : ℕ) (r : Res Element) → length l ≡ k → LeadIs l r → LeadLong k r
-lead-long l k (ok e) h i = rw i h
-lead-long l k (bad n p) h i = tt
+lead-long : (l : List Unit) (u : Unit) (k : ℕ) (r : Res Element) → length l ≡ k → Keeps l u r → LeadLong k r
+lead-long l u k (ok e) h i = rw (i .0) h
+lead-long l u k (bad n p) h i = tt
 
 later-arg-long : (l : List Unit) (p : ℕ) (a : Arg) → LeadLong (length l) (laterArg l p a)
 later-arg-long l p (arg m u r) =
     byBool (eqb (length m) (length l))
-    (λ y. rw (y, laterArg) (lead-long m (length l) (upper m u r) (eqb-true (length m) (length l) y) (upper-lead r m u)))
+    (λ y. rw (y, laterArg) (lead-long m u (length l) (upper m u r) (eqb-true (length m) (length l) y) (upper-keeps r m u)))
     (λ y. rw (y, laterArg) tt)
 
 later-long : (l : List Unit) (g : Group) → LeadLong (length l) (later l g)
 later-long l (group s q p i js) =
     byBool (eqb (sepCode s) (sepCode amp-))
-    (λ y. byBool (isNil l) (λ z. rw (y, later, z) tt) (λ z. rw (y, later, z) (lead-long l (length l) (upper l i js) refl (upper-lead js l i))))
+    (λ y. byBool (isNil l) (λ z. rw (y, later, z) tt) (λ z. rw (y, later, z) (lead-long l i (length l) (upper l i js) refl (upper-keeps js l i))))
     (λ y. rw (y, later) (later-arg-long l p (fullArg i js)))
 
 -- ---- the first element is one in full that has its own number of units
@@ -79,7 +58,7 @@ first-later : (js : List (Join Unit)) → dashesAt js 1 ≤ 3 → (kindAt js 0 �
     → firstArg (innerAt js 1) (fullArg (unitAt js 0) (innerAt js 1)) ≡ later (unitsFrom js 0 (dashesAt js 1)) (groupAt js 0)
 first-later js h k =
     let d = dashesAt js 1 in
-    rw (full-at js 0, items-length d js 0, le-leb d 3 h, firstArg, ne-eqb (kindAt js 0) 2 k, later, full-at js 0, items-length d js 0, eq-eqb d d refl, laterArg)
+    rw (full-at js 0, units-length d js 0, le-leb d 3 h, firstArg, ne-eqb (kindAt js 0) 2 k, later, full-at js 0, units-length d js 0, eq-eqb d d refl, laterArg)
 
 module _ (b : ℕ) (cs ts : List ℕ) where
   groups-all : groupsAt (joinsIn b cs ts) 0 ≡ groupsOf (collect (joinsIn b cs ts))
@@ -111,7 +90,7 @@ module _ (b : ℕ) (cs ts : List ℕ) where
   elements-long h =
       let js = joinsIn b cs ts in let d = dashesAt js 1 in
       byBool (ltb 0 (count ts))
-      (λ y. rw (all-groups (ltb-true 0 (count ts) y), full-at js 0, items-length d js 0, lt-leb d 3 h, firstArg, inner-sep 3 js 1 h, sep-place-is b cs ts 4))
+      (λ y. rw (all-groups (ltb-true 0 (count ts) y), full-at js 0, units-length d js 0, lt-leb d 3 h, firstArg, inner-sep 3 js 1 h, sep-place-is b cs ts 4))
       (λ y. let z : d ≡ 0 = dash-end js 1 (λ e. absurd (omega (arith, dash-inside js 1 e, joins-length b cs ts, ltb-false 0 (count ts) y))) in absurd (omega arith))
 
 -- ---- a step's answer and the rules' element
@@ -201,7 +180,7 @@ module _ (b : ℕ) (cs ts : List ℕ) where
       let d : q - 1 ≡ dashesAt js 1 = omega (arith, a b cs) in
       record {
         l = unitsFrom js 0 (dashesAt js 1);
-        long = items-length (dashesAt js 1) js 0 ∙ sym d;
+        long = units-length (dashesAt js 1) js 0 ∙ sym d;
         is = more-none (elements (groupsOf (collect js))) ∙ ap (moreAnswer 0 0) (elements-later b cs ts (omega arith));
         starts = starts-first b cs ts;
         few = omega arith;

@@ -8,7 +8,7 @@ ghost use Prim.Native.Nat.{_≤_, _<_};
 ghost use Rattle.rules.specs.Groups.{elements, groupsOf, collect};
 ghost use Rattle.rules.specs.Tokens.{sepCode, ampamp, ampamp-, amp-, plusplus};
 ghost use Rattle.groups.specs.Joins.{joinsIn, count, sepKind, beginsKind};
-ghost use Rattle.groups.specs.Answers.{Increment, Ordered, Ranged, Upper, Later};
+ghost use Rattle.elements.specs.Shapes.{Increment, Ordered, Ranged, Upper, Later};
 ghost use Rattle.elements.specs.Walk.{stepOf, valueAnswer};
 
 // A compound argument has at most 4 units: so many before the last.
@@ -34,27 +34,27 @@ pub enum Value {
     Wrong { no: u8, place: u32 },
 }
 
-// The increment at the n-th unit, behind `++`.
+// The increment, unit `at`, behind `++`.
 fn stepped(
     toks: &[u64],
     contents: &[u8],
     base: u8,
-    n: usize,
+    at: usize,
     size: u8,
     lower: u32,
     upper: u32,
 ) -> Shape
-    requires { ⌜ (lower ≤ upper) × (sepKind (now toks) n ≡ sepCode plusplus) ⌝ }
-    ensures { λ r. ⌜ Increment (joinsIn base (now (contents .entry)) (now (toks .entry))) n size lower upper r ⌝ }
+    requires { ⌜ (lower ≤ upper) × (sepKind (now toks) at ≡ sepCode plusplus) ⌝ }
+    ensures { λ r. ⌜ Increment (joinsIn base (now (contents .entry)) (now (toks .entry))) at size lower upper r ⌝ }
 {
-    let inc = groups::step_end(size, groups::end_of(toks, contents, base, n));
+    let inc = groups::step_end(size, groups::end_of(toks, contents, base, at));
     if inc == 0 {
         return Shape::Refused {
             no: groups::GROUP_BROKEN,
-            place: groups::unit_place(toks, n),
+            place: groups::unit_place(toks, at),
         };
     }
-    groups::no_more(toks, n + 1, lower, upper, inc)
+    groups::no_more(toks, at + 1, lower, upper, inc)
 }
 
 // What follows the upper end before the n-th unit: perhaps an increment.
@@ -88,25 +88,25 @@ fn increment(
     }
 }
 
-// A range whose upper end, the n-th unit, must not be below the lower end.
+// A range whose upper end, unit `at`, must not be below the lower end.
 fn ordered(
     toks: &[u64],
     contents: &[u8],
     base: u8,
-    n: usize,
+    at: usize,
     size: u8,
     lower: u32,
     upper: u32,
 ) -> Shape
-    requires { ⌜ beginsKind (sepKind (now toks) n) ≡ false ⌝ }
-    ensures { λ r. ⌜ Ordered (joinsIn base (now (contents .entry)) (now (toks .entry))) n size lower upper r ⌝ }
+    requires { ⌜ beginsKind (sepKind (now toks) at) ≡ false ⌝ }
+    ensures { λ r. ⌜ Ordered (joinsIn base (now (contents .entry)) (now (toks .entry))) at size lower upper r ⌝ }
 {
     if lower <= upper {
-        return increment(toks, contents, base, n + 1, size, lower, upper);
+        return increment(toks, contents, base, at + 1, size, lower, upper);
     }
     Shape::Refused {
         no: groups::GROUP_BROKEN,
-        place: groups::unit_place(toks, n),
+        place: groups::unit_place(toks, at),
     }
 }
 

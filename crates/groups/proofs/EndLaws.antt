@@ -1,4 +1,4 @@
--- A unit as the end of a range.
+-- A unit as the end of a range: the code's cases are the rules', since only a numeral without fraction is an end.
 use Prim.Native.Nat.{ℕ, suc, _+_, _-_, _≤_, _<_}
 use mathlib.Core.Path.{_≡_, refl, sym, _∙_}
 use mathlib.Core.List.{List}
@@ -20,7 +20,7 @@ use Rattle.groups.specs.Answers.{endAnswer, endAt, unitEnd, bothEnds, st
 use Rattle.groups.specs.declared.End.{End}
 use Rattle.groups.specs.declared.End.the-variants.{Other}
 use Rattle.groups.specs.declared.Ends.the-variants.{Both, Apart}
-use Rattle.groups.proofs.JoinLaws.{item-is, item-past}
+use Rattle.groups.proofs.JoinLaws.{unit-in, unit-past}
 
 unit-end : (w : List ℕ) (u : Word) → endAnswer (endOf (orText (readAs 0 w u))) ≡ unitEnd u
 unfolding readAs
@@ -46,15 +46,15 @@ module _ (b : ℕ) (cs ts : List ℕ) (n : ℕ) where
       → u ≡ unitUnder b (take (to - from) (drop from cs)) → r ≡ unitEnd u → r ≡ endAt (joinsIn b cs ts) n
   unfolding endAt
   end-at-word c h e g f t w q =
-      rw (q, w, f, t, content-part cs (getD ts (n + n) 0), item-is b cs ts n (rw c at h)) (sym (end-word b cs (getD ts (n + n) 0) (sym e ∙ g)))
+      rw (q, w, f, t, content-part cs (getD ts (n + n) 0), unit-in b cs ts n (rw c at h)) (sym (end-word b cs (getD ts (n + n) 0) (sym e ∙ g)))
 
   pub end-at-other : {m k : ℕ} → m ≡ count ts → n < m → k ≡ kindIn (getD ts (n + n) 0) → (k ≡ 10 → ⊥) → Other ≡ endAt (joinsIn b cs ts) n
   unfolding endAt
-  end-at-other c h e g = rw (item-is b cs ts n (rw c at h)) (sym (end-other b cs (getD ts (n + n) 0) (λ z. g (e ∙ z))))
+  end-at-other c h e g = rw (unit-in b cs ts n (rw c at h)) (sym (end-other b cs (getD ts (n + n) 0) (λ z. g (e ∙ z))))
 
   pub end-at-past : {m : ℕ} → m ≡ count ts → m ≤ n → Other ≡ endAt (joinsIn b cs ts) n
   unfolding endAt
-  end-at-past c h = rw (item-past b cs ts n (rw c at h))
+  end-at-past c h = rw (unit-past b cs ts n (rw c at h))
 
 -- an increment by what it is as an end
 pub step-none : (r : Radix) (i : Unit) → stepEnd (size r) (endAnswer (endOf i)) ≡ 0 → incOf r i ≡ none

@@ -16,7 +16,8 @@ use Rattle.rules.specs.Tokens.{sepCode}
 use Rattle.rules.specs.Units.{Unit, text}
 use Rattle.table.specs.Table.{kindIn, placeIn}
 use Rattle.table.proofs.AltLaws.{sep-code}
-use Rattle.groups.specs.Joins.{unitIn, joinKind, joinSep, joined, joinsIn, noJoin, sepOfJ, sepPlaceOfJ, placeOfJ, unitOfJ, sepAt, kindAt, sepPlaceAt, placeAt, unitAt, preOf, innerAt, groupsAt, unitsFrom, dashes, dashesAt, nextAt, count, sepKind, sepPlace, unitPlace, beginsKind}
+use Rattle.groups.specs.Joins.{unitIn, joinKind, joinSep, joined, joinsIn, noJoin, sepOfJ, sepPlaceOfJ, placeOfJ, unitOfJ, sepAt, kindAt, sepPlaceAt}
+use Rattle.groups.specs.Joins.{placeAt, unitAt, preOf, innerAt, groupsAt, unitsFrom, dashes, dashesAt, nextAt, count, sepKind, sepPlace, unitPlace, beginsKind}
 
 module _ (b : ℕ) (cs : List ℕ) where
   joined-length : (us : List ℕ) → length (joined b cs us) ≡ length us / 2
@@ -80,13 +81,13 @@ module _ (b : ℕ) (cs ts : List ℕ) (n : ℕ) where
       (λ y. rw (joins-at b cs ts n (ltb-true n (count ts) y), y))
       (λ y. rw (past (ltb-false n (count ts) y), y))
 
-  pub item-is : n < count ts → unitAt (joinsIn b cs ts) n ≡ unitIn b cs (getD ts (n + n) 0)
+  pub unit-in : n < count ts → unitAt (joinsIn b cs ts) n ≡ unitIn b cs (getD ts (n + n) 0)
   unfolding unitAt
-  item-is h = rw (joins-at b cs ts n h)
+  unit-in h = rw (joins-at b cs ts n h)
 
-  pub item-past : count ts ≤ n → unitAt (joinsIn b cs ts) n ≡ text []
+  pub unit-past : count ts ≤ n → unitAt (joinsIn b cs ts) n ≡ text []
   unfolding unitAt
-  item-past h = rw (past h)
+  unit-past h = rw (past h)
 
 -- ---- any joined units
 
@@ -212,9 +213,9 @@ pub full-at : (js : List (Join Unit)) (m : ℕ)
     → let d = dashesAt js (m + 1) in fullArg (unitAt js m) (innerAt js (m + 1)) ≡ arg (unitsFrom js m d) (unitAt js (m + d)) (innerAt js (m + d + 1))
 full-at js m = full-from (dashesAt js (m + 1)) js m refl
 
-pub items-length : (d : ℕ) (js : List (Join Unit)) (n : ℕ) → length (unitsFrom js n d) ≡ d
-items-length zero js n = refl
-items-length (suc d) js n = rw (items-length d js (n + 1))
+pub units-length : (d : ℕ) (js : List (Join Unit)) (n : ℕ) → length (unitsFrom js n d) ≡ d
+units-length zero js n = refl
+units-length (suc d) js n = rw (units-length d js (n + 1))
 
 -- the units joined by `-` behind one that is there are there too
 pub dashes-inside : (d : ℕ) (js : List (Join Unit)) (m : ℕ) → m < length js → dashesAt js (m + 1) ≡ d → m + d < length js

@@ -22,6 +22,7 @@ abbrev pub orText : Res Unit → Unit
 orText (ok i) = i
 orText (bad n p) = text []
 
+-- the unit of a token
 unfoldable pub unitIn : ℕ → List ℕ → ℕ → Unit
 unitIn b cs t = orText (readIn b 0 (lexOfKind (kindIn t) (contentIn cs t)))
 
@@ -32,7 +33,7 @@ joinKind k = cond (leb k (sepCode dash)) k (sepCode amp)
 abbrev pub joinSep : ℕ → Sep
 joinSep t = sepOf (joinKind (kindIn t))
 
--- separator and unit, two tokens each
+-- two tokens each: a separator and the unit behind it
 abbrev pub joined : ℕ → List ℕ → List ℕ → List (Join Unit)
 joined b cs [] = []
 joined b cs (u ∷ []) = []
@@ -59,6 +60,7 @@ placeOfJ (join s q p i) = p
 abbrev pub unitOfJ : Join Unit → Unit
 unitOfJ (join s q p i) = i
 
+-- separator, its kind, its place, and place and unit of the n-th
 unfoldable pub sepAt : List (Join Unit) → ℕ → Sep
 sepAt js n = sepOfJ (getD js n noJoin)
 
@@ -79,14 +81,16 @@ abbrev pub unitsFrom : List (Join Unit) → ℕ → ℕ → List Unit
 unitsFrom js n zero = []
 unitsFrom js n (suc d) = unitAt js n ∷ unitsFrom js (n + 1) d
 
--- ---- the rules' passes from the n-th unit on: what still belongs to the element before, and the elements that begin
+-- ---- what the rules collect from the n-th unit on
 
+-- what still belongs to the element before
 abbrev pub preOf : Collected → List (Join Unit)
 preOf (collected pre gs) = pre
 
 unfoldable pub innerAt : List (Join Unit) → ℕ → List (Join Unit)
 innerAt js n = preOf (collect (drop n js))
 
+-- the elements that begin from there on
 unfoldable pub groupsAt : List (Join Unit) → ℕ → List Group
 groupsAt js n = groupsOf (collect (drop n js))
 
@@ -104,9 +108,11 @@ nextAt js n = n + length (innerAt js n)
 
 -- ---- the same read from the table alone
 
+-- how many units a value's tokens have
 abbrev pub count : List ℕ → ℕ
 count ts = length ts / 2 + length ts % 2
 
+-- kind and place of the separator before the n-th unit, and the place of the n-th unit
 unfoldable pub sepKind : List ℕ → ℕ → ℕ
 sepKind ts n = cond (eqb n 0) (sepCode amp) (cond (ltb n (count ts)) (joinKind (kindIn (getD ts (n + n - 1) 0))) (sepCode amp))
 
@@ -116,6 +122,6 @@ sepPlace ts n = cond (eqb n 0) 0 (cond (ltb n (count ts)) (placeIn (getD ts (n +
 unfoldable pub unitPlace : List ℕ → ℕ → ℕ
 unitPlace ts n = cond (ltb n (count ts)) (placeIn (getD ts (n + n) 0)) 0
 
--- `&` or `&-`
+-- a separator that begins an element: `&` or `&-`
 abbrev pub beginsKind : ℕ → Bool
 beginsKind k = eqb k (sepCode amp) || eqb k (sepCode amp-)

@@ -26,7 +26,7 @@ use Rattle.table.proofs.ContentLaws.{Cuts, content-small}
 use Rattle.groups.specs.Joins.{unitIn, joinsIn, unitAt, unitsFrom, count}
 use Rattle.groups.specs.Answers.{elementAnswer}
 use Rattle.groups.specs.declared.Shape.{Shape}
-use Rattle.groups.proofs.JoinLaws.{item-is}
+use Rattle.groups.proofs.JoinLaws.{unit-in}
 use Rattle.values.proofs.FaultlessLaws.{UnitRead, Sound}
 use Rattle.measure.specs.Measure.{fieldIn, bytesAt, bytesFrom, headBytes, elementBytes}
 
@@ -128,7 +128,8 @@ units-snoc (suc d) js n =
     let q : n + suc d ≡ n + 1 + d = omega arith in
     rw q (ap (λ r. unitAt js n ∷ r) (units-snoc d js (n + 1)))
 
-element-fields : (n : ℕ) (e : Element) → bytesOf (elementFields e) ≡ headBytes (elementAnswer n (ok e)) ++ bytesOf (map unitField (leading e)) ++ fieldBytes (unitField (lastUnit e))
+element-fields : (n : ℕ) (e : Element)
+    → bytesOf (elementFields e) ≡ headBytes (elementAnswer n (ok e)) ++ bytesOf (map unitField (leading e)) ++ fieldBytes (unitField (lastUnit e))
 element-fields n (single l u) = ap (λ x. fieldBytes (field 5 []) ++ x) (bytes-snoc l u)
 element-fields n (range l r lo up inc) =
     ap (λ x. fieldBytes (field 6 (fourBytes up ++ fourBytes inc)) ++ x) (bytes-snoc l (num r 0 lo))
@@ -137,7 +138,7 @@ module _ (b : Base) (l : ℕ) (own : l ≡ letter b) (ts cs : List ℕ) (es : Li
   unit-is : (n : ℕ) → n < count ts → bytesAt l cs ts n ≡ fieldBytes (unitField (unitAt (joinsIn l cs ts) n))
   unfolding bytesAt
   unit-is n h =
-      rw own (field-is b cs (getD ts (n + n) 0) (s .units n h) ∙ sym (ap (λ i. fieldBytes (unitField i)) (item-is (letter b) cs ts n h)))
+      rw own (field-is b cs (getD ts (n + n) 0) (s .units n h) ∙ sym (ap (λ i. fieldBytes (unitField i)) (unit-in (letter b) cs ts n h)))
 
   units-are : (d n : ℕ) → n + d ≤ count ts → bytesFrom l cs ts n d ≡ bytesOf (map unitField (unitsFrom (joinsIn l cs ts) n d))
   unfolding bytesFrom

@@ -39,7 +39,8 @@ module _ (l : ℕ) (cs ts : List ℕ) (n : ℕ) where
   unfolding bytesFrom
   units-none = refl
 
-  pub units-more : (i : ℕ) {total x : ℕ} → total ≡ length (bytesFrom l cs ts n i) → x ≡ length (bytesAt l cs ts (n + i)) → total + x ≡ length (bytesFrom l cs ts n (i + 1))
+  pub units-more : (i : ℕ) {total x : ℕ} → total ≡ length (bytesFrom l cs ts n i) → x ≡ length (bytesAt l cs ts (n + i))
+      → total + x ≡ length (bytesFrom l cs ts n (i + 1))
   unfolding bytesFrom
   units-more i e g = rw (add-one i, length-append, ← e, ← g)
 

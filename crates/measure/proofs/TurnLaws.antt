@@ -15,7 +15,8 @@ use Rattle.rules.specs.Units.{Base, letter}
 use Rattle.rules.proofs.ResultLaws.{ok-inj}
 use Rattle.table.specs.Table.{tokensIn}
 use Rattle.groups.specs.Joins.{joinsIn, kindAt, nextAt, count, sepKind}
-use Rattle.groups.specs.Answers.{ArgEnd, Later}
+use Rattle.groups.specs.Answers.{ArgEnd}
+use Rattle.elements.specs.Shapes.{Later}
 use Rattle.groups.specs.declared.Shape.{Shape}
 use Rattle.groups.proofs.JoinLaws.{joins-length, kind-is}
 use Rattle.elements.specs.Walk.{stepOf}

@@ -15,10 +15,10 @@ ghost use Rattle.groups.specs.Joins.{count};
 ghost use Rattle.values.specs.Passes.{Faultless};
 ghost use Rattle.measure.specs.Measure.{bytesAt, bytesFrom, headBytes, elementBytes, ValueLen};
 
-// A field's tag and length before its content, and the field of a range with its upper end and increment.
+// How many bytes a field has before its content, and the whole field of a range element with its upper end and increment.
 const FIELD_HEAD: usize = 3;
 
-const RANGE_FIELD: usize = 11;
+pub const RANGE_FIELD: usize = 11;
 
 // How many bytes the n-th unit's field takes.
 fn unit_len(toks: &[u64], contents: &[u8], base: u8, n: usize) -> usize

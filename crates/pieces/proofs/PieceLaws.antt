@@ -42,7 +42,8 @@ pub test-none : (x : Bool) (w : List ℕ) {t : Bool} → t ≡ isIdentifier w �
 test-none x w e h y = rw (y, ← e, h)
 
 module _ (x : Bool) (cs : List ℕ) (t : ℕ) where
-  pub piece-word : {k from to : ℕ} {r : Bool} → k ≡ kindIn t → k ≡ 10 → from ≡ startIn t (length cs) → to ≡ endIn t (length cs) → r ≡ test x (take (to - from) (drop from cs)) → r ≡ pieceTest x cs t
+  pub piece-word : {k from to : ℕ} {r : Bool} → k ≡ kindIn t → k ≡ 10 → from ≡ startIn t (length cs) → to ≡ endIn t (length cs)
+      → r ≡ test x (take (to - from) (drop from cs)) → r ≡ pieceTest x cs t
   unfolding pieceTest
   piece-word e g f o q = rw (q, f, o, content-part cs t, ← e, g)
 
@@ -94,19 +95,22 @@ dash-no zero nr x nm cs t ts e h = refl
 dash-no (suc n) nr x nm cs t ts e h = rw (dash-kind (kindIn t) (contentIn cs t) ∙ h, pieces)
 
 module _ (nr : ℕ) (nm : Bool) (cs ts : List ℕ) (e i : ℕ) where
-  pub piece-more : (x : Bool) (left : ℕ) {f want : Bool} {r : Verdict} → r ≡ piecesAt nr x nm left want cs (drop i ts) e → i < length ts → want ≡ true → f ≡ pieceTest x cs (getD ts i 0) → f ≡ true
+  pub piece-more : (x : Bool) (left : ℕ) {f want : Bool} {r : Verdict} → r ≡ piecesAt nr x nm left want cs (drop i ts) e → i < length ts → want ≡ true
+      → f ≡ pieceTest x cs (getD ts i 0) → f ≡ true
       → r ≡ piecesAt nr nm nm left false cs (drop (i + 1) ts) e
   unfolding piecesAt
   piece-more x left q h w g y =
       let t = getD ts i 0 in
       q ∙ rw (w, next ts i h, piece-yes x cs t (sym g ∙ y), pieces) (verdict-map (λ ws. contentIn cs t ∷ ws) (pieces nr (test nm) (test nm) left false (tokensIn cs (drop (i + 1) ts)) e))
 
-  pub piece-stop : (x : Bool) (left : ℕ) {f want : Bool} {p : ℕ} {r : Verdict} → r ≡ piecesAt nr x nm left want cs (drop i ts) e → i < length ts → want ≡ true → f ≡ pieceTest x cs (getD ts i 0) → f ≡ false
+  pub piece-stop : (x : Bool) (left : ℕ) {f want : Bool} {p : ℕ} {r : Verdict} → r ≡ piecesAt nr x nm left want cs (drop i ts) e → i < length ts
+      → want ≡ true → f ≡ pieceTest x cs (getD ts i 0) → f ≡ false
       → p ≡ placeIn (getD ts i 0) → Refused nr p ≡ r
   unfolding piecesAt
   piece-stop x left q h w g y v = sym (q ∙ rw (w, next ts i h, piece-no x cs (getD ts i 0) (sym g ∙ y), pieces, ← v))
 
-  pub dash-more : (x : Bool) (left : ℕ) {f want : Bool} {r : Verdict} → r ≡ piecesAt nr x nm left want cs (drop i ts) e → i < length ts → want ≡ false → f ≡ dashTest left (getD ts i 0) → f ≡ true
+  pub dash-more : (x : Bool) (left : ℕ) {f want : Bool} {r : Verdict} → r ≡ piecesAt nr x nm left want cs (drop i ts) e → i < length ts → want ≡ false
+      → f ≡ dashTest left (getD ts i 0) → f ≡ true
       → r ≡ piecesAt nr nm nm (left - 1) true cs (drop (i + 1) ts) e
   unfolding piecesAt
   dash-more x left q h w g y = q ∙ rw (w, next ts i h, dash-yes left nr x nm cs (getD ts i 0) (drop (i + 1) ts) e (sym g ∙ y))
@@ -116,7 +120,8 @@ module _ (nr : ℕ) (nm : Bool) (cs ts : List ℕ) (e i : ℕ) where
   dash-left zero g y = absurd (false≢true (sym g ∙ y))
   dash-left (suc n) g y = omega arith
 
-  pub dash-stop : (x : Bool) (left : ℕ) {f want : Bool} {p : ℕ} {r : Verdict} → r ≡ piecesAt nr x nm left want cs (drop i ts) e → i < length ts → want ≡ false → f ≡ dashTest left (getD ts i 0) → f ≡ false
+  pub dash-stop : (x : Bool) (left : ℕ) {f want : Bool} {p : ℕ} {r : Verdict} → r ≡ piecesAt nr x nm left want cs (drop i ts) e → i < length ts
+      → want ≡ false → f ≡ dashTest left (getD ts i 0) → f ≡ false
       → p ≡ placeIn (getD ts i 0) → Refused nr p ≡ r
   unfolding piecesAt
   dash-stop x left q h w g y v = sym (q ∙ rw (w, next ts i h, dash-no left nr x nm cs (getD ts i 0) (drop (i + 1) ts) e (sym g ∙ y), ← v))

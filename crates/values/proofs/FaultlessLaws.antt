@@ -16,7 +16,7 @@ use Rattle.rules.proofs.ResultLaws.{ok≢bad, map-ok, bind-ok, guard-ok}
 use Rattle.table.specs.Table.{kindIn, placeIn, contentIn, lexOfKind, sepOf, tokensIn, wordKind}
 use Rattle.table.proofs.AltLaws.{unit-kind, joiner-yes, joiner-none, wanted}
 use Rattle.groups.specs.Joins.{unitIn, joinsIn, count}
-use Rattle.values.proofs.PassLaws.{unit-item, items-are, joins-all}
+use Rattle.values.proofs.PassLaws.{unit-read, joins-are, joins-all}
 
 -- ---- each unit is read
 
@@ -30,7 +30,8 @@ UnitsRead b cs false [] = Always
 UnitsRead b cs true (t ∷ ts) = UnitRead b cs t × UnitsRead b cs false ts
 UnitsRead b cs false (t ∷ ts) = UnitsRead b cs true ts
 
-units-read : (b : Base) (cs ts : List ℕ) (u : Bool) (s : Sep) (q e : ℕ) (js : List (Join Lex)) (is : List (Join Unit)) → alternate (wanted u s q) (tokensIn cs ts) e ≡ ok js
+units-read : (b : Base) (cs ts : List ℕ) (u : Bool) (s : Sep) (q e : ℕ) (js : List (Join Lex)) (is : List (Join Unit))
+    → alternate (wanted u s q) (tokensIn cs ts) e ≡ ok js
     → readUnits b js ≡ ok is → UnitsRead b cs u ts
 units-read b cs [] true s q e js is h g = tt
 units-read b cs [] false s q e js is h g = tt
@@ -40,7 +41,7 @@ units-read b cs (t ∷ ts) true s q e js is h g =
     (λ y. map-ok (λ js. join s q (placeIn t) (lexOfKind k w) ∷ js) (alternate joiner (tokensIn cs ts) e) js (rw (unit-kind k w ∙ y, alternate) at h)
     (λ js′ h′ z. bind-ok (readUnit b (placeIn t) (lexOfKind k w)) (λ i. mapR (λ is. join s q (placeIn t) i ∷ is) (readUnits b js′)) is (rw (← z) at g)
     (λ i hi hr. map-ok (λ is. join s q (placeIn t) i ∷ is) (readUnits b js′) is hr
-    (λ is′ hr′ z′. (hi ∙ ap ok (unit-item b cs t y i hi), units-read b cs ts false s q e js′ is′ h′ hr′)))))
+    (λ is′ hr′ z′. (hi ∙ ap ok (unit-read b cs t y i hi), units-read b cs ts false s q e js′ is′ h′ hr′)))))
     (λ y. ok≢bad (rw (unit-kind k w ∙ y, alternate) at h))
 units-read b cs (t ∷ ts) false s q e js is h g =
     let k = kindIn t in let w = contentIn cs t in
@@ -75,7 +76,7 @@ sound b ts cs e es h =
     (λ is r h3. bind-ok (elements (groupsOf (collect is))) _ es h3
     (λ v g h4. guard-ok (leb (valueCount v) mostArguments) tooManyOrders (first (tokensIn cs ts) e) (λ _. ok v) es h4
     (λ y h5.
-    let z : is ≡ joinsIn (letter b) cs ts = items-are b cs ts true amp 0 e js is a r ∙ joins-all (letter b) cs ts in
+    let z : is ≡ joinsIn (letter b) cs ts = joins-are b cs ts true amp 0 e js is a r ∙ joins-all (letter b) cs ts in
     record {
       some = some-token cs ts e js a;
       groups = rw (← z) (g ∙ h5);

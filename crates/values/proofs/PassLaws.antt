@@ -41,14 +41,14 @@ word-verdict p w Symbolic = refl
 word-verdict p w Unreadable = refl
 word-verdict p w TooBig = refl
 
-same-item : (p : ℕ) (w : List ℕ) (u : Word) (i : Unit) → readAs p w u ≡ ok i → i ≡ orText (readAs 0 w u)
+same-unit : (p : ℕ) (w : List ℕ) (u : Word) (i : Unit) → readAs p w u ≡ ok i → i ≡ orText (readAs 0 w u)
 unfolding readAs
-same-item p w (Numeral l f v) i h = sym (ok-inj h)
-same-item p w (Keyed k) i h = sym (ok-inj h)
-same-item p w Identifier i h = sym (ok-inj h)
-same-item p w Symbolic i h = sym (ok-inj h)
-same-item p w Unreadable i h = ok≢bad h
-same-item p w TooBig i h = ok≢bad h
+same-unit p w (Numeral l f v) i h = sym (ok-inj h)
+same-unit p w (Keyed k) i h = sym (ok-inj h)
+same-unit p w Identifier i h = sym (ok-inj h)
+same-unit p w Symbolic i h = sym (ok-inj h)
+same-unit p w Unreadable i h = ok≢bad h
+same-unit p w TooBig i h = ok≢bad h
 
 module _ (b : Base) (cs : List ℕ) (t : ℕ) where
   unit-verdict : leb 10 (kindIn t) ≡ true → verdict (readUnit b (placeIn t) (lexOfKind (kindIn t) (contentIn cs t))) ≡ unitVerdict (letter b) cs t
@@ -59,12 +59,12 @@ module _ (b : Base) (cs : List ℕ) (t : ℕ) where
       (λ y. rw (n, y, ← unit-is b (placeIn t) (contentIn cs t)) (word-verdict (placeIn t) (contentIn cs t) (unitUnder (letter b) (contentIn cs t))))
       (λ y. rw (n, y))
 
-  pub unit-item : leb 10 (kindIn t) ≡ true → (i : Unit) → readUnit b (placeIn t) (lexOfKind (kindIn t) (contentIn cs t)) ≡ ok i → i ≡ unitIn (letter b) cs t
+  pub unit-read : leb 10 (kindIn t) ≡ true → (i : Unit) → readUnit b (placeIn t) (lexOfKind (kindIn t) (contentIn cs t)) ≡ ok i → i ≡ unitIn (letter b) cs t
   unfolding lexOfKind unitIn
-  unit-item h i e =
+  unit-read h i e =
       let n = le-ltb (kindIn t) 10 (leb-true 10 (kindIn t) h) in
       byBool (eqb (kindIn t) 10)
-      (λ y. rw (n, y) (same-item (placeIn t) (contentIn cs t) (unitUnder (letter b) (contentIn cs t)) i (unit-is b (placeIn t) (contentIn cs t) ∙ rw (n, y) at e)))
+      (λ y. rw (n, y) (same-unit (placeIn t) (contentIn cs t) (unitUnder (letter b) (contentIn cs t)) i (unit-is b (placeIn t) (contentIn cs t) ∙ rw (n, y) at e)))
       (λ y. rw (n, y) (sym (ok-inj (rw (n, y) at e))))
 
   sep-verdict : leb (kindIn t) 5 ≡ true → unitVerdict (letter b) cs t ≡ Fine
@@ -108,28 +108,30 @@ joined-step : (l : ℕ) (cs : List ℕ) (t : ℕ) (ts : List ℕ) → joined l c
 joined-step l cs t [] = refl
 joined-step l cs t (x ∷ ts) = refl
 
-pub items-are : (b : Base) (cs ts : List ℕ) (u : Bool) (s : Sep) (q e : ℕ) (js : List (Join Lex)) (is : List (Join Unit)) → alternate (wanted u s q) (tokensIn cs ts) e ≡ ok js
+pub joins-are : (b : Base) (cs ts : List ℕ) (u : Bool) (s : Sep) (q e : ℕ) (js : List (Join Lex)) (is : List (Join Unit))
+    → alternate (wanted u s q) (tokensIn cs ts) e ≡ ok js
     → readUnits b js ≡ ok is → is ≡ joinedBy (letter b) cs u s q ts
-items-are b cs [] true s q e js is h g = ok≢bad h
-items-are b cs [] false s q e js is h g = sym (ok-inj (rw (← ok-inj h) at g))
-items-are b cs (t ∷ ts) true s q e js is h g =
+joins-are b cs [] true s q e js is h g = ok≢bad h
+joins-are b cs [] false s q e js is h g = sym (ok-inj (rw (← ok-inj h) at g))
+joins-are b cs (t ∷ ts) true s q e js is h g =
     let k = kindIn t in let w = contentIn cs t in
     byBool (leb 10 k)
     (λ y. map-ok (λ js. join s q (placeIn t) (lexOfKind k w) ∷ js) (alternate joiner (tokensIn cs ts) e) js (rw (unit-kind k w ∙ y, alternate) at h)
     (λ js′ h′ z. bind-ok (readUnit b (placeIn t) (lexOfKind k w)) (λ i. mapR (λ is. join s q (placeIn t) i ∷ is) (readUnits b js′)) is (rw (← z) at g)
     (λ i hi hr. map-ok (λ is. join s q (placeIn t) i ∷ is) (readUnits b js′) is hr
-    (λ is′ hr′ z′. rw (← z′, ← items-are b cs ts false s q e js′ is′ h′ hr′, ← unit-item b cs t y i hi)))))
+    (λ is′ hr′ z′. rw (← z′, ← joins-are b cs ts false s q e js′ is′ h′ hr′, ← unit-read b cs t y i hi)))))
     (λ y. ok≢bad (rw (unit-kind k w ∙ y, alternate) at h))
-items-are b cs (t ∷ ts) false s q e js is h g =
+joins-are b cs (t ∷ ts) false s q e js is h g =
     let k = kindIn t in let w = contentIn cs t in
     byBool (leb k 5)
-    (λ y. rw (joined-step (letter b) cs t ts, ← sep-is b cs t y) (items-are b cs ts true (sepOf k) (placeIn t) e js is (rw (joiner-yes k w y, alternate) at h) g))
+    (λ y. rw (joined-step (letter b) cs t ts, ← sep-is b cs t y) (joins-are b cs ts true (sepOf k) (placeIn t) e js is (rw (joiner-yes k w y, alternate) at h) g))
     (λ y. ok≢bad (rw (joiner-none k w y, alternate) at h))
 
 -- ---- the loop over the units
 
 module _ (b : ℕ) (cs ts : List ℕ) (i : ℕ) where
-  pub units-more : {r v : Verdict} → r ≡ unitsVerdict b cs (drop i ts) → i < length ts → v ≡ unitVerdict b cs (getD ts i 0) → v ≡ Fine → r ≡ unitsVerdict b cs (drop (i + 1) ts)
+  pub units-more : {r v : Verdict} → r ≡ unitsVerdict b cs (drop i ts) → i < length ts → v ≡ unitVerdict b cs (getD ts i 0) → v ≡ Fine
+      → r ≡ unitsVerdict b cs (drop (i + 1) ts)
   unfolding unitsVerdict
   units-more q h e y = q ∙ rw (next ts i h, ← e, y)
 
@@ -195,6 +197,6 @@ read-fine ts cs l e {v} {r} a h q b m =
     let uv = units-verdict b cs ts true amp 0 e js y in
     byRes (readUnits b js)
     (λ is g.
-    let z : is ≡ joinsIn (letter b) cs ts = items-are b cs ts true amp 0 e js is y g ∙ joins-all (letter b) cs ts in
+    let z : is ≡ joinsIn (letter b) cs ts = joins-are b cs ts true amp 0 e js is y g ∙ joins-all (letter b) cs ts in
     rw (q, m, ← uv, y, g, z, ← p0) (limit-is (first (tokensIn cs ts) e) (elements (groupsOf (collect (joinsIn (letter b) cs ts))))))
     (λ n p g. rw (q, m, ← uv, y, g)))

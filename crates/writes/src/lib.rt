@@ -69,7 +69,7 @@ fn put_units(
     k
 }
 
-// The field of a range element: its upper end and its increment, four bytes each.
+// The field of a range element: its upper end and its increment, four bytes each, the high byte first.
 fn put_range(out: &mut [u8], upper: u32, inc: u32)
     requires { ⌜ 11 ≤ length (now out) ⌝ }
     ensures { λ r. ⌜ now (out .exit) ≡ over (fieldBytes (field 6 (fourBytes upper ++ fourBytes inc))) (now (out .entry)) ⌝ }
@@ -101,7 +101,7 @@ fn put_head(out: &mut [u8], x: Shape) -> usize
             next,
         } => {
             put_range(out, upper, inc);
-            RANGE_FIELD
+            measure::RANGE_FIELD
         }
         Shape::Refused { no, place } => 0,
     }

@@ -1,3 +1,4 @@
+-- `elements` meets its contract: at every turn the elements counted and the rules' elements from there on are the whole.
 use borrow.Author.Needs.{needs}
 use Rattle.elements.proofs.WalkLaws.{Walking, walking-none, walking-long, walking-many, walking-bad, walking-more, walking-on, walking-end}
 use Rattle.groups.specs.Joins.{joinsIn, count}

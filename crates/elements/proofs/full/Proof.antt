@@ -1,3 +1,4 @@
+-- `full` meets its contract: an argument in full has its units up to the first separator that is no `-`.
 use native.Mathlib.Omega.{arith}
 use Rattle.elements.proofs.ElementLaws.{full-yes, full-bad}
 use mathlib.Core.List.{[]}

@@ -1,3 +1,4 @@
+-- `increment` meets its contract: the separator's kind says whether an increment follows.
 use Rattle.elements.proofs.ElementLaws.{inc-end, inc-bad}
 use borrow.Author.Needs.{needs}
 use Rattle.elements.proofs.increment.Statement.{statement}

@@ -1,3 +1,4 @@
+-- `ordered` meets its contract: its test is the rule's.
 use native.Mathlib.Omega.{arith}
 use mathlib.Core.Path.{refl}
 use denote.Ref.{now}
@@ -8,7 +9,7 @@ use Rattle.elements.proofs.ordered.Statement.{statement}
 use Rattle.elements.proofs.ordered.Tie as tie
 
 add-increment : tie.Need-add-increment
-add-increment c = let a = c .before .before .before .args in omega (arith, inner-room (now (a .toks)) (a .n) refl refl (c .before .before .before .pre) .1)
+add-increment c = let a = c .before .before .before .args in omega (arith, inner-room (now (a .toks)) (a .at) refl refl (c .before .before .before .pre) .1)
 
 increment-requires : tie.Need-increment-requires
 increment-requires c κs = search needs

@@ -1,3 +1,4 @@
+-- `outcome` meets its contract: each case is a case of the definition.
 use borrow.Author.Needs.{needs}
 use Rattle.elements.proofs.outcome.Statement.{statement}
 use Rattle.elements.proofs.outcome.Tie as tie

@@ -1,3 +1,4 @@
+-- `ranged` meets its contract: both ends together decide as the rule's ends do.
 use native.Mathlib.Omega.{arith}
 use mathlib.Core.Path.{refl}
 use denote.Ref.{now}

@@ -1,3 +1,4 @@
+-- `short` meets its contract: without leading units `&-` is refused, else what follows the unit decides.
 use Rattle.elements.proofs.ElementLaws.{short-yes, short-bad}
 use borrow.Author.Needs.{needs}
 use Rattle.elements.proofs.short.Statement.{statement}

@@ -1,3 +1,4 @@
+-- `stepped` meets its contract: an increment is a numeral of the base that is not 0.
 use native.Mathlib.Omega.{arith}
 use mathlib.Core.Path.{refl, sym}
 use mathlib.Core.Bool.{false}
@@ -13,8 +14,8 @@ use Rattle.elements.proofs.stepped.Tie as tie
 end-of-requires : tie.Need-end-of-requires
 end-of-requires c κs = search needs
 
-here : (c : tie.After-step-end) → c .before .before .before .before .args .n < count (now (c .before .before .before .before .args .toks))
-here c = let a = c .before .before .before .before .args in inner-room (now (a .toks)) (a .n) {k = 4} {f = false} (sym (c .before .before .before .before .pre .1)) refl refl .1
+here : (c : tie.After-step-end) → c .before .before .before .before .args .at < count (now (c .before .before .before .before .args .toks))
+here c = let a = c .before .before .before .before .args in inner-room (now (a .toks)) (a .at) {k = 4} {f = false} (sym (c .before .before .before .before .pre .1)) refl refl .1
 
 step-end-requires : tie.Need-step-end-requires
 step-end-requires c κs = search needs

@@ -1,3 +1,4 @@
+-- `upper_end` meets its contract: the separator's kind says whether a range follows.
 use mathlib.Core.Path.{sym, _∙_}
 use Rattle.elements.proofs.ElementLaws.{up-end, up-range, up-bad}
 use borrow.Author.Needs.{needs}

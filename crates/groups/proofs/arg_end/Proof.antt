@@ -1,3 +1,4 @@
+-- `arg_end` meets its contract: the units joined by `-` from the first on are those behind the turn made and those left.
 use Prim.Native.Nat.{ℕ, _+_, _-_}
 use mathlib.Core.Path.{_≡_, refl}
 use mathlib.Core.List.{List}

@@ -1,3 +1,4 @@
+-- `begins` meets its contract: its two tests are those of the definition.
 use borrow.Author.Tests.{ne-eqb}
 use Rattle.groups.proofs.begins.Statement.{statement}
 use Rattle.groups.proofs.begins.Tie as tie

@@ -1,3 +1,4 @@
+-- `both_ends` meets its contract: the lower end decides, and with a numeral the upper one.
 use borrow.Author.Needs.{needs}
 use Rattle.groups.proofs.both_ends.Statement.{statement}
 use Rattle.groups.proofs.both_ends.Tie as tie

@@ -1,3 +1,4 @@
+-- `end_of` meets its contract: what is cut out of the contents is the unit's content, and a unit that is no word is no end.
 use native.Mathlib.Omega.{arith}
 use Prim.Native.Nat.{_+_}
 use lib.ListN.{getD}

@@ -1,3 +1,4 @@
+-- `join_kind` meets its contract: its test is the test of the definition.
 use borrow.Author.Tests.{le-leb, lt-leb}
 use Rattle.groups.proofs.join_kind.Statement.{statement}
 use Rattle.groups.proofs.join_kind.Tie as tie

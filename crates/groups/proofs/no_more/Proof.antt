@@ -1,3 +1,4 @@
+-- `no_more` meets its contract: the separator's kind says whether the element ends.
 use Rattle.groups.proofs.GroupLaws.{no-more-end, no-more-bad}
 use borrow.Author.Needs.{needs}
 use Rattle.groups.proofs.no_more.Statement.{statement}

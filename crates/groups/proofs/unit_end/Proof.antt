@@ -1,3 +1,4 @@
+-- `unit_end` meets its contract: only a numeral without fraction is an end.
 use mathlib.Core.Path.{_≡_, refl}
 use mathlib.Core.List.{[], _∷_}
 use mathlib.Core.Logic.{inl, inr}

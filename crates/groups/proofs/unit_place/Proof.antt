@@ -1,3 +1,4 @@
+-- `unit_place` meets its contract: its test is the test of the definition.
 use borrow.Author.Tests.{lt-ltb, le-ltb}
 use Rattle.groups.specs.Joins.{unitPlace}
 use borrow.Author.Needs.{needs}

@@ -1,3 +1,4 @@
+-- `element_len` meets its contract: the three lengths are those of the three parts, and few.
 use borrow.Author.Needs.{needs}
 use Rattle.measure.proofs.BytesLaws.{units-small}
 use Rattle.measure.proofs.MeasureLaws.{head-small, element-len, element-small}

@@ -1,3 +1,4 @@
+-- `front_of` meets its contract: its test is the test of the definition.
 use borrow.Author.Tests.{eq-eqb, ne-eqb}
 use Rattle.measure.proofs.front_of.Statement.{statement}
 use Rattle.measure.proofs.front_of.Tie as tie

@@ -1,3 +1,4 @@
+-- `last_of` meets its contract: its test is the test of the definition.
 use borrow.Author.Needs.{needs}
 use borrow.Author.Tests.{eq-eqb, ne-eqb}
 use Rattle.measure.proofs.last_of.Statement.{statement}

@@ -1,3 +1,4 @@
+-- `unit_len` meets its contract: what is cut out of the contents is the unit's content.
 use borrow.Author.Needs.{needs}
 use Rattle.measure.proofs.MeasureLaws.{len-word, len-string}
 use Rattle.measure.proofs.BytesLaws.{lent}

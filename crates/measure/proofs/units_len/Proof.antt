@@ -1,3 +1,4 @@
+-- `units_len` meets its contract: at every turn the total is the length of the units done.
 use borrow.Author.Needs.{needs}
 use Rattle.measure.proofs.MeasureLaws.{units-none, units-more, units-all}
 use Rattle.measure.proofs.BytesLaws.{unit-small, units-small}

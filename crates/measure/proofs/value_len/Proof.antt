@@ -1,3 +1,4 @@
+-- `value_len` meets its contract: at every turn the total is the length of the elements done.
 use borrow.Author.Needs.{needs}
 use Rattle.measure.proofs.MeasureLaws.{element-small, Measuring, measuring-none, measuring-end, measuring-more}
 use Rattle.measure.proofs.TurnLaws.{Met, met}

@@ -1,3 +1,4 @@
+-- `fits` meets its contract: its tests are those of the definition.
 use Rattle.pieces.proofs.PieceLaws.{test-ident, test-index, test-none}
 use borrow.Author.Needs.{needs}
 use Rattle.pieces.proofs.fits.Statement.{statement}

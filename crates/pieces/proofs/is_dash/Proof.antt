@@ -1,3 +1,4 @@
+-- `is_dash` meets its contract: its tests are those of the definition.
 use Rattle.pieces.proofs.PieceLaws.{dash-none, dash-some}
 use borrow.Author.Needs.{needs}
 use Rattle.pieces.proofs.is_dash.Statement.{statement}

@@ -1,3 +1,4 @@
+-- `is_index` meets its contract: a word without characters is no index number.
 use Rattle.pieces.proofs.PieceLaws.{index-none, index-some}
 use borrow.Author.Needs.{needs}
 use Rattle.pieces.proofs.is_index.Statement.{statement}

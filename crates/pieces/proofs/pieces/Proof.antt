@@ -1,3 +1,4 @@
+-- `pieces` meets its contract: at every turn the rest of the tokens has the verdict of the whole.
 use native.Mathlib.Omega.{arith}
 use mathlib.Core.Path.{_≡_, refl}
 use Prim.Native.Nat.{_-_}

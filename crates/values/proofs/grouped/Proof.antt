@@ -1,3 +1,4 @@
+-- `grouped` meets its contract: the passes are taken in the order of the definition.
 use Rattle.values.specs.Passes.{groupedAnswer}
 use borrow.Author.Needs.{needs}
 use Rattle.values.proofs.grouped.Statement.{statement}

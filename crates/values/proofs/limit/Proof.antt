@@ -1,3 +1,4 @@
+-- `limit` meets its contract: its test is the rule's.
 use borrow.Author.Tests.{le-leb, lt-leb}
 use borrow.Author.Needs.{needs}
 use Rattle.values.proofs.limit.Statement.{statement}

@@ -1,3 +1,4 @@
+-- `read_value` meets its contract: after a good alternation the table's joined units are the rules' units.
 use mathlib.Core.Path.{sym, _∙_}
 use denote.Ref.{now}
 use Rattle.values.proofs.PassLaws.{some-token, read-refused, read-fine}

@@ -1,3 +1,4 @@
+-- `readable` meets its contract: at every turn the rest of the tokens has the verdict of the whole.
 use mathlib.Core.Path.{_≡_, refl}
 use Prim.Native.Nat.{_-_}
 use lib.ListN.{length, drop}

@@ -1,3 +1,4 @@
+-- `word_verdict` meets its contract: each case is a case of the definition.
 use native.Mathlib.Omega.{arith}
 use mathlib.Core.Path.{_≡_, refl}
 use Prim.Native.Nat.{ℕ, _≤_}

@@ -1,3 +1,4 @@
+-- `put_element` meets its contract: the three parts are written one behind the other.
 use borrow.Author.Needs.{needs}
 use Rattle.measure.proofs.MeasureLaws.{element-len}
 use Rattle.measure.specs.Measure.{headBytes, bytesFrom, bytesAt, elementBytes}

@@ -1,3 +1,4 @@
+-- `put_head` meets its contract: each case writes the field of the definition.
 use borrow.Author.Needs.{needs}
 use mathlib.Core.Path.{refl}
 use native.Mathlib.Omega.{arith}

@@ -1,3 +1,4 @@
+-- `put_range` meets its contract: the stores are the field's bytes, one by one.
 use borrow.Author.Needs.{needs}
 use Rattle.rules.specs.Records.{fourBytes, field, fieldBytes}
 use denote.Ref.{now}

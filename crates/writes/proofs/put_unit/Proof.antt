@@ -1,3 +1,4 @@
+-- `put_unit` meets its contract: what is cut out of the contents is the unit's content.
 use borrow.Author.Needs.{needs}
 use lib.ListN.{length-take, length-drop, getD}
 use Rattle.writes.proofs.WriteLaws.{word-part, string-part}

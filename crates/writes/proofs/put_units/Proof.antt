@@ -1,3 +1,4 @@
+-- `put_units` meets its contract: at every turn the units done stand over the start of the buffer.
 use borrow.Author.Needs.{needs}
 use Rattle.writes.proofs.WriteLaws.{Putting, putting-none, putting-room, putting-more, putting-all}
 use Rattle.laws.specs.Over.{length-part}

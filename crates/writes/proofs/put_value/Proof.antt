@@ -1,3 +1,4 @@
+-- `put_value` meets its contract: at every turn the elements done stand over the start of the buffer.
 use borrow.Author.Needs.{needs}
 use Rattle.writes.proofs.WriteLaws.{Writing, writing-none, writing-end, writing-room, writing-more}
 use Rattle.measure.proofs.TurnLaws.{Met, met}

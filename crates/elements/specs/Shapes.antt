@@ -1,0 +1,41 @@
+-- What the code answers for an element, decision by decision: the rule's result for the joined units that stand there.
+use Prim.Native.Nat.{ℕ, _+_, _-_}
+use mathlib.Core.Path.{_≡_}
+use mathlib.Core.Bool.{Bool, cond}
+use mathlib.Core.List.{List}
+use lib.Dec.{leb}
+use lib.ListN.{length}
+use Rattle.laws.specs.Lists.{isNil}
+use Rattle.rules.specs.Groups.{Join, Group, group, increment, upper, later}
+use Rattle.rules.specs.Refusals.{bad, groupBroken}
+use Rattle.rules.specs.Tokens.{ampamp, ampamp-, sepCode}
+use Rattle.rules.specs.Units.{Radix, size, Unit}
+use Rattle.groups.specs.Joins.{sepAt, kindAt, sepPlaceAt, placeAt, unitAt, innerAt, nextAt}
+use Rattle.groups.specs.Answers.{elementAnswer}
+use Rattle.groups.specs.declared.Shape.{Shape}
+
+-- the rule `increment`, in a base of z digits
+abbrev pub Increment : List (Join Unit) → ℕ → ℕ → ℕ → ℕ → Shape → Type 0
+Increment js n z lo up e = (l : List Unit) (r : Radix) → z ≡ size r → e ≡ elementAnswer (nextAt js n) (increment l r lo up (innerAt js n))
+
+-- the rule `upper` behind an argument, which is simple or not and whose last unit is the one before the n-th
+abbrev pub Upper : List (Join Unit) → ℕ → Bool → Shape → Type 0
+Upper js n s e = (l : List Unit) → isNil l ≡ s → e ≡ elementAnswer (nextAt js n) (upper l (unitAt js (n - 1)) (innerAt js n))
+
+-- the same where the separator is that of a range
+abbrev pub Ranged : List (Join Unit) → ℕ → Shape → Type 0
+Ranged js n e = (l : List Unit) → kindAt js n ≡ cond (isNil l) (sepCode ampamp) (sepCode ampamp-) → e ≡ elementAnswer (nextAt js n) (upper l (unitAt js (n - 1)) (innerAt js n))
+
+-- the same where both ends are numerals of one base of z digits: upper not below lower, then `increment`
+abbrev pub Ordered : List (Join Unit) → ℕ → ℕ → ℕ → ℕ → Shape → Type 0
+Ordered js n z lo up e =
+    (l : List Unit) (r : Radix) → z ≡ size r
+    → e ≡ elementAnswer (nextAt js n) (cond (leb lo up) (increment l r lo up (innerAt js (n + 1))) (bad groupBroken (placeAt js n)))
+
+-- the element that begins at the n-th unit, as the rules collect it
+abbrev pub groupAt : List (Join Unit) → ℕ → Group
+groupAt js n = group (sepAt js n) (sepPlaceAt js n) (placeAt js n) (unitAt js n) (innerAt js (n + 1))
+
+-- the rule `later`, whatever the k leading units of the element before are
+abbrev pub Later : List (Join Unit) → ℕ → ℕ → Shape → Type 0
+Later js k n e = (l : List Unit) → length l ≡ k → e ≡ elementAnswer (nextAt js (n + 1)) (later l (groupAt js n))

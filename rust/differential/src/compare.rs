@@ -1,0 +1,155 @@
+//! One call to the library and one to the model, compared in answer and buffer.
+
+use crate::library::Library;
+use crate::random::Random;
+use crate::watched::Watched;
+
+/// An answer: a value, or number and place of the refusal.
+pub type Answer = Result<u32, (u8, u32)>;
+
+/// A call with its inputs.
+#[derive(Clone, Copy)]
+pub enum Call<'i> {
+    /// Text and base letters.
+    Read(&'i [u8], &'i [u8]),
+    /// A record.
+    Print(&'i [u8]),
+    /// A record and the number of an order.
+    Order(&'i [u8], u64),
+    /// A record.
+    Count(&'i [u8]),
+}
+
+/// The answers and the bytes written, alike on both sides.
+pub struct Outcome {
+    /// The answer.
+    pub answer: Answer,
+    /// What stands at the buffer's start on success.
+    pub bytes: Vec<u8>,
+}
+
+/// What is wrong, with all that is needed to see it again.
+pub type Difference = String;
+
+impl Call<'_> {
+    /// Runs the call with a buffer of `room` bytes on both sides.
+    pub fn compare(
+        self,
+        library: &mut Library,
+        random: &mut Random,
+        room: usize,
+    ) -> Result<Outcome, Difference> {
+        let fill = random.next();
+        let before: Vec<u8> = (0..room).map(|at| filling(fill, at)).collect();
+        let mut out = Watched::with(random, &before);
+        let mut expected = before.clone();
+        let (first, second) = self.inputs();
+        let inputs = [Watched::with(random, first), Watched::with(random, second)];
+        let lent = self.lent(inputs[0].buffer(), inputs[1].buffer());
+        let answer = library
+            .call(&lent, out.buffer_mut())
+            .map_err(|what| self.alone(&what))?;
+        let right = self.model(&mut expected);
+        let tell = |what: &str| Err(self.describe(what, room, answer, right));
+        if answer != right {
+            return tell("the answers differ");
+        }
+        if out.buffer() != expected {
+            let at = (0..room).find(|&at| out.buffer()[at] != expected[at]);
+            return tell(&format!("the buffers differ at {}", at.unwrap_or(room)));
+        }
+        if !out.is_unharmed() {
+            return tell("a byte beside the buffer is written");
+        }
+        if inputs.iter().any(|input| !input.is_unharmed())
+            || inputs[0].buffer() != first
+            || inputs[1].buffer() != second
+        {
+            return tell("an input is written");
+        }
+        let written = match (self, answer) {
+            (Call::Count(_), _) | (_, Err(_)) => 0,
+            (_, Ok(length)) => length as usize,
+        };
+        if written > room || expected[written..] != before[written..] {
+            return tell("bytes past the answer are written");
+        }
+        expected.truncate(written);
+        Ok(Outcome {
+            answer,
+            bytes: expected,
+        })
+    }
+
+    /// The inputs that are slices.
+    pub fn inputs(&self) -> (&[u8], &[u8]) {
+        match self {
+            Call::Read(text, bases) => (text, bases),
+            Call::Print(record) | Call::Order(record, _) | Call::Count(record) => (record, &[]),
+        }
+    }
+
+    /// The same call with its inputs lent from elsewhere.
+    fn lent<'l>(&self, first: &'l [u8], second: &'l [u8]) -> Call<'l> {
+        match self {
+            Call::Read(..) => Call::Read(first, second),
+            Call::Print(_) => Call::Print(first),
+            Call::Order(_, k) => Call::Order(first, *k),
+            Call::Count(_) => Call::Count(first),
+        }
+    }
+
+    /// Calls the model.
+    pub fn model(&self, out: &mut [u8]) -> Answer {
+        let length = |length| length as u32;
+        match self {
+            Call::Read(text, bases) => model::read(text, bases, out).map(length),
+            Call::Print(record) => model::print(record, out).map(length),
+            Call::Order(record, k) => model::order(record, *k, out).map(length),
+            Call::Count(record) => model::count(record),
+        }
+        .map_err(|refusal| (refusal.number, refusal.place))
+    }
+
+    /// The input in full, and what the library did with it.
+    pub fn alone(&self, what: &str) -> Difference {
+        format!("{what}\n{}", self.inputs_in_full())
+    }
+
+    /// The input in full, and both answers.
+    fn describe(&self, what: &str, room: usize, library: Answer, model: Answer) -> Difference {
+        format!(
+            "{what}\n{}buffer   {room} bytes\nlibrary  {library:?}\nmodel    {model:?}",
+            self.inputs_in_full()
+        )
+    }
+
+    /// The input in full, as text and as bytes.
+    pub fn inputs_in_full(&self) -> String {
+        let (name, k) = match self {
+            Call::Read(..) => ("read", String::new()),
+            Call::Print(_) => ("print", String::new()),
+            Call::Order(_, k) => ("order", format!("k        {k}\n")),
+            Call::Count(_) => ("count", String::new()),
+        };
+        let (first, second) = self.inputs();
+        let mut shown = format!("call     {name}\n{k}{}", bytes_in_full("input", first));
+        if let Call::Read(..) = self {
+            shown.push_str(&bytes_in_full("bases", second));
+        }
+        shown
+    }
+}
+
+fn bytes_in_full(name: &str, bytes: &[u8]) -> String {
+    let hexadecimal: String = bytes.iter().map(|byte| format!("{byte:02X}")).collect();
+    format!(
+        "{name:<8} {} bytes: {}\n         {hexadecimal}\n",
+        bytes.len(),
+        bytes.escape_ascii()
+    )
+}
+
+fn filling(key: u64, at: usize) -> u8 {
+    (key >> (8 * (at % 8))) as u8 ^ at as u8
+}

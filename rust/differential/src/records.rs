@@ -1,0 +1,303 @@
+//! Generated records: those of commands, changed in their bytes and in their fields, spliced,
+//! and grown past what a text can give.
+
+use crate::commands::damage;
+use crate::random::Random;
+
+/// A field: tag and content.
+type Field = (u8, Vec<u8>);
+
+/// A record made of one or two others.
+pub fn record(random: &mut Random, one: &[u8], other: &[u8]) -> Vec<u8> {
+    match random.below(8) {
+        0 => one.to_vec(),
+        1 => {
+            let mut record = one.to_vec();
+            damage(random, &mut record);
+            record
+        }
+        2 => join(&grown(random)),
+        _ => {
+            let mut fields = fields(one);
+            for _ in 0..random.pick(&[1, 1, 1, 2, 3]) {
+                change(random, &mut fields, other);
+            }
+            let mut record = join(&fields);
+            if random.one_in(20) {
+                damage(random, &mut record);
+            }
+            record
+        }
+    }
+}
+
+/// The fields of a record as far as they are whole.
+fn fields(mut record: &[u8]) -> Vec<Field> {
+    let mut fields = Vec::new();
+    while let [tag, high, low, rest @ ..] = record {
+        let length = u16::from_be_bytes([*high, *low]) as usize;
+        if length > rest.len() {
+            break;
+        }
+        fields.push((*tag, rest[..length].to_vec()));
+        record = &rest[length..];
+    }
+    fields
+}
+
+fn join(fields: &[Field]) -> Vec<u8> {
+    let mut record = Vec::new();
+    for (tag, content) in fields {
+        record.push(*tag);
+        record.extend((content.len() as u16).to_be_bytes());
+        record.extend(content);
+    }
+    record
+}
+
+/// Changes the fields in one way.
+fn change(random: &mut Random, fields: &mut Vec<Field>, other: &[u8]) {
+    if fields.is_empty() {
+        fields.push((1, b"A".to_vec()));
+    }
+    let at = random.below(fields.len());
+    match random.below(17) {
+        0 => {
+            fields.remove(at);
+        }
+        1 => fields.insert(at, fields[at].clone()),
+        2 if at > 0 => fields.swap(at - 1, at),
+        3 => {
+            let new = field(random);
+            fields.insert(at + 1, new);
+        }
+        4 => fields[at] = field(random),
+        5 => fields[at].0 = random.pick(&[0, 1, 2, 3, 4, 5, 6, 7, 8, 9, 10, 11, 12, 255]),
+        6 => {
+            let mut other = self::fields(other);
+            let from = random.below(other.len() + 1);
+            other.drain(..from);
+            fields.truncate(at + 1);
+            fields.extend(other);
+        }
+        7 => fields.truncate(at + 1),
+        8 => repeat_element(random, fields, at),
+        9 | 14 => each(random, fields, 3),
+        15 => retag(random, fields),
+        16 => add_places(random, fields),
+        10 => each(random, fields, 7),
+        11 => each(random, fields, 6),
+        _ => change_content(random, &mut fields[at]),
+    }
+}
+
+/// Changes the content of one field with this tag.
+fn each(random: &mut Random, fields: &mut [Field], tag: u8) {
+    let found: Vec<usize> = (0..fields.len()).filter(|&n| fields[n].0 == tag).collect();
+    if !found.is_empty() {
+        let at = random.pick(&found);
+        change_content(random, &mut fields[at]);
+    }
+}
+
+/// Adds a block of omitted places, so that the places are about as many as there may be.
+fn add_places(random: &mut Random, fields: &mut Vec<Field>) {
+    let places = fields.iter().filter(|field| field.0 == 3).count();
+    let wanted = random.between(31, 33);
+    fields.push((2, b"P".to_vec()));
+    for _ in places..wanted {
+        fields.push((3, vec![random.pick(b"DHOBK")]));
+    }
+}
+
+/// Makes a unit one of another kind, with a word that bases read in different ways.
+fn retag(random: &mut Random, fields: &mut [Field]) {
+    let words: [&[u8]; 10] = [
+        b"1A", b"CAFE", b"A1", b"10", b"#", b"A#", b"12", b"G", b"0B", b"1+",
+    ];
+    let is_unit = |field: &Field| (7..=11).contains(&field.0);
+    let found: Vec<usize> = (0..fields.len()).filter(|&n| is_unit(&fields[n])).collect();
+    if !found.is_empty() {
+        let at = random.pick(&found);
+        let word = if fields[at].0 == 7 || random.one_in(2) {
+            random.pick(&words).to_vec()
+        } else {
+            fields[at].1.clone()
+        };
+        fields[at] = (random.between(8, 11) as u8, word);
+    }
+}
+
+/// Repeats the element at or behind `at` some times.
+fn repeat_element(random: &mut Random, fields: &mut Vec<Field>, at: usize) {
+    let is_element = |field: &Field| field.0 == 5 || field.0 == 6;
+    let Some(start) = (at..fields.len()).find(|&n| is_element(&fields[n])) else {
+        return;
+    };
+    let mut end = start + 1;
+    while end < fields.len() && (7..=11).contains(&fields[end].0) {
+        end += 1;
+    }
+    let element = fields[start..end].to_vec();
+    for _ in 0..random.pick(&[1, 1, 2, 3, 62, 63, 64]) {
+        fields.splice(end..end, element.clone());
+    }
+}
+
+/// Changes a content in a way that its tag understands.
+fn change_content(random: &mut Random, field: &mut Field) {
+    let content = &mut field.1;
+    match field.0 {
+        2 => *content = vec![random.pick(b"PNPNPNXp")],
+        3 => *content = vec![random.pick(b"DHOBKDHOBKX")],
+        6 if content.len() == 8 => {
+            let half = 4 * random.below(2);
+            change_number(random, &mut content[half..half + 4]);
+        }
+        7 if content.len() == 6 => match random.below(3) {
+            0 => content[0] = random.pick(b"DHOBDHOBDHOBKX"),
+            1 => content[1] = random.pick(&[0, 0, 1, 2, 8, 9, 10, 255]),
+            _ => change_number(random, &mut content[2..6]),
+        },
+        _ => match random.below(6) {
+            0 => content.resize(random.pick(&[0, 1, 31, 32, 33, 80, 81, 256]), b'A'),
+            1 => content.push(random.pick(b"A1+#%.'*\" ")),
+            2 => content.reverse(),
+            3 => {
+                if let Some(first) = content.first_mut() {
+                    *first = random.pick(b"AZa19+#%*'.\"\0 ");
+                }
+            }
+            4 => {
+                let plus = random.below(content.len() + 1);
+                content.insert(plus, b'+');
+            }
+            _ => damage(random, content),
+        },
+    }
+}
+
+fn change_number(random: &mut Random, bytes: &mut [u8]) {
+    let old = u32::from_be_bytes([bytes[0], bytes[1], bytes[2], bytes[3]]);
+    let new = match random.below(8) {
+        0 => 0,
+        1 => u32::MAX,
+        2 => old.wrapping_add(1),
+        3 => old.wrapping_sub(1),
+        4 => random.below(5000) as u32,
+        5 => random.next() as u32,
+        6 => old.wrapping_add(4096),
+        _ => 1,
+    };
+    bytes.copy_from_slice(&new.to_be_bytes());
+}
+
+/// Any field, most times one that could stand in a record.
+fn field(random: &mut Random) -> Field {
+    match random.below(12) {
+        0 => (1, b"A".to_vec()),
+        1 => (2, vec![random.pick(b"PN")]),
+        2 => (3, vec![random.pick(b"DHOBK")]),
+        3 => (4, random.pick(&[&b"N"[..], b"07", b"N1"]).to_vec()),
+        4 => (5, Vec::new()),
+        5 => (6, range(random)),
+        _ => unit(random),
+    }
+}
+
+fn range(random: &mut Random) -> Vec<u8> {
+    let upper = random.pick(&[0, 5, 9, 255, 4095, 4096, u32::MAX]);
+    let increment = random.pick(&[0, 1, 1, 1, 2, 7, u32::MAX]);
+    [upper.to_be_bytes(), increment.to_be_bytes()].concat()
+}
+
+/// Any unit's field.
+fn unit(random: &mut Random) -> Field {
+    let words: [&[u8]; 13] = [
+        b"A", b"CAFE", b"G1", b"1A", b"#", b"12", b"*", b"+", b"A+B", b"A++", b"10%", b"", b"E",
+    ];
+    match random.below(8) {
+        0..=2 => {
+            let letter = random.pick(b"DDDHOB");
+            let fraction = if letter == b'D' && random.one_in(3) {
+                random.between(1, 9) as u8
+            } else {
+                0
+            };
+            let value = random.pick(&[0, 1, 5, 9, 10, 255, 4096, u32::MAX]);
+            let mut content = vec![letter, fraction];
+            content.extend(value.to_be_bytes());
+            (7, content)
+        }
+        3 => (11, vec![b'x'; random.pick(&[0, 1, 5, 79, 80, 81])]),
+        4 => (11, vec![b'"'; random.pick(&[1, 2, 80])]),
+        tag => (tag as u8 + 3, random.pick(&words).to_vec()),
+    }
+}
+
+/// A record that may be well formed and need not fit any text.
+fn grown(random: &mut Random) -> Vec<Field> {
+    let mut fields = Vec::new();
+    for _ in 0..random.between(1, 3) {
+        fields.push((1, vec![b'A'; random.pick(&[1, 2, 31, 32])]));
+    }
+    let blocks = random.pick(&[0, 1, 1, 2, 3, 8, 9]);
+    let most = random.pick(&[1, 2, 3, 5, 12]);
+    let plain = random.one_in(2);
+    for _ in 0..blocks {
+        let named = random.one_in(2);
+        fields.push((2, vec![if named { b'N' } else { b'P' }]));
+        for _ in 0..random.between(1, most) {
+            let base = random.pick(b"DDDHOBK");
+            fields.push((3, vec![base]));
+            if named {
+                for _ in 0..random.pick(&[1, 1, 2, 4]) {
+                    fields.push((4, vec![b'N'; random.pick(&[1, 3, 32])]));
+                }
+            } else if random.one_in(4) {
+                continue;
+            }
+            grow_value(random, &mut fields, plain);
+        }
+    }
+    fields
+}
+
+fn grow_value(random: &mut Random, fields: &mut Vec<Field>, plain: bool) {
+    let units = random.pick(&[1, 1, 2, 3, 4]);
+    let elements = random.pick(&[1, 1, 1, 1, 2, 3, 12, 63, 64]);
+    let leading: Vec<Field> = (1..units).map(|_| safe_unit(random, plain)).collect();
+    for _ in 0..elements {
+        let ranged = random.one_in(4);
+        if ranged {
+            let lower = random.pick(&[0, 1, 7, u32::MAX - 3]);
+            let upper = lower + random.pick(&[0, 1, 2, 3]);
+            let increment = random.pick(&[1u32, 1, 2, u32::MAX]);
+            let content = [upper.to_be_bytes(), increment.to_be_bytes()].concat();
+            fields.push((6, content));
+            fields.extend(leading.iter().cloned());
+            let mut content = vec![random.pick(b"DHOB"), 0];
+            content.extend(lower.to_be_bytes());
+            fields.push((7, content));
+        } else {
+            fields.push((5, Vec::new()));
+            if random.one_in(4) {
+                fields.extend((1..units).map(|_| safe_unit(random, plain)));
+            } else {
+                fields.extend(leading.iter().cloned());
+            }
+            fields.push(safe_unit(random, plain));
+        }
+    }
+}
+
+/// A unit that is right under most bases.
+fn safe_unit(random: &mut Random, plain: bool) -> Field {
+    match random.below(if plain { 3 } else { 6 }) {
+        0 => (9, b"GO".to_vec()),
+        1 => (11, vec![b'"'; random.pick(&[0, 1, 40, 80])]),
+        2 => (8, vec![b'*'; random.pick(&[1, 31, 32])]),
+        3 => (10, vec![b'%'; random.pick(&[1, 32])]),
+        _ => unit(random),
+    }
+}

@@ -1,0 +1,40 @@
+//! Links the static library that the environment variable `MML_LIB` leads to.
+
+use std::env;
+use std::path::PathBuf;
+use std::process::exit;
+
+const LIBRARY: &str = "libmml.a";
+
+fn main() {
+    println!("cargo:rerun-if-env-changed=MML_LIB");
+    let folder = match env::var_os("MML_LIB") {
+        Some(folder) if !folder.is_empty() => PathBuf::from(folder),
+        _ => stop(&format!(
+            "MML_LIB is not set. Set it to the whole path of the folder that has {LIBRARY}."
+        )),
+    };
+    if !folder.is_absolute() {
+        stop(&format!(
+            "MML_LIB is `{}`. Give the whole path of the folder that has {LIBRARY}.",
+            folder.display()
+        ));
+    }
+    let library = folder.join(LIBRARY);
+    if !library.is_file() {
+        stop(&format!(
+            "MML_LIB is `{}`, but that folder has no {LIBRARY}.",
+            folder.display()
+        ));
+    }
+    println!("cargo:rerun-if-changed={}", library.display());
+    println!("cargo:rustc-link-search=native={}", folder.display());
+    println!("cargo:rustc-link-lib=static=mml");
+}
+
+/// Ends the build with a message.
+fn stop(message: &str) -> ! {
+    println!("cargo:warning={message}");
+    eprintln!("error: {message}");
+    exit(1)
+}

@@ -1,0 +1,200 @@
+//! What all tests use: calls with buffers that are watched, records written by hand.
+
+#![allow(dead_code)]
+
+use model::Refusal;
+
+/// The buffer that is tried first.
+const ROOM: usize = 2048;
+
+const FILL: u8 = 0xA5;
+
+/// Runs a call that writes, with a buffer of this size, and gives what it wrote. A refused call
+/// must write nothing, a call that succeeds nothing past its answer.
+fn watched(
+    size: usize,
+    call: impl FnOnce(&mut [u8]) -> Result<usize, Refusal>,
+) -> Result<Vec<u8>, (u8, u32)> {
+    let mut out = vec![FILL; size];
+    match call(&mut out) {
+        Ok(length) => {
+            assert!(out[length..].iter().all(|&byte| byte == FILL));
+            out.truncate(length);
+            Ok(out)
+        }
+        Err(refusal) => {
+            assert!(out.iter().all(|&byte| byte == FILL));
+            Err((refusal.number, refusal.place))
+        }
+    }
+}
+
+/// Like [`watched`], and tries the sizes that just fit and just do not.
+fn watched_all(call: impl Fn(&mut [u8]) -> Result<usize, Refusal>) -> Result<Vec<u8>, (u8, u32)> {
+    let mut answer = watched(ROOM, &call);
+    if let Err((17, needed)) = answer {
+        assert!(needed as usize > ROOM);
+        answer = watched(needed as usize + 1, &call);
+    }
+    match &answer {
+        Ok(bytes) => {
+            let needed = bytes.len();
+            assert_eq!(watched(needed, &call).as_ref(), Ok(bytes));
+            assert_eq!(watched(needed - 1, &call), Err((17, needed as u32)));
+            assert_eq!(watched(0, &call), Err((17, needed as u32)));
+        }
+        Err(refusal) => assert_eq!(watched(0, &call), Err(*refusal)),
+    }
+    answer
+}
+
+/// The record of a command, or the refusal.
+pub fn read_bytes(text: &[u8], bases: &[u8]) -> Result<Vec<u8>, (u8, u32)> {
+    watched_all(|out| model::read(text, bases, out))
+}
+
+/// The record of a command, or the refusal.
+pub fn read(text: &str, bases: &str) -> Result<Vec<u8>, (u8, u32)> {
+    read_bytes(text.as_bytes(), bases.as_bytes())
+}
+
+/// The record of a command that must be accepted.
+#[track_caller]
+pub fn record(text: &str, bases: &str) -> Vec<u8> {
+    match read(text, bases) {
+        Ok(record) => record,
+        Err(refusal) => panic!("{text} with {bases}: refused {refusal:?}"),
+    }
+}
+
+/// Expects a command to be refused.
+#[track_caller]
+pub fn refused(text: &str, bases: &str, number: u8, place: usize) {
+    assert_eq!(
+        read(text, bases),
+        Err((number, place as u32)),
+        "{text} with {bases}"
+    );
+}
+
+/// Expects a command to be read as if it were this other one.
+#[track_caller]
+pub fn same(text: &str, other: &str, bases: &str) {
+    assert_eq!(record(text, bases), record(other, bases), "{text}");
+}
+
+/// The text of a record, or the refusal.
+pub fn print(record: &[u8]) -> Result<String, (u8, u32)> {
+    let text = watched_all(|out| model::print(record, out))?;
+    Ok(String::from_utf8(text).unwrap())
+}
+
+/// Expects a command to be printed as this.
+#[track_caller]
+pub fn prints(text: &str, bases: &str, expected: &str) {
+    assert_eq!(
+        print(&record(text, bases)).as_deref(),
+        Ok(expected),
+        "{text}"
+    );
+}
+
+/// The number of orders of a record, or the refusal.
+pub fn count(record: &[u8]) -> Result<u32, (u8, u32)> {
+    model::count(record).map_err(|refusal| (refusal.number, refusal.place))
+}
+
+/// Order `k` of a record, or the refusal.
+pub fn order(record: &[u8], k: u64) -> Result<Vec<u8>, (u8, u32)> {
+    watched_all(|out| model::order(record, k, out))
+}
+
+/// The texts of all orders of a command.
+#[track_caller]
+pub fn orders(text: &str, bases: &str) -> Vec<String> {
+    let record = record(text, bases);
+    let count = count(&record).unwrap();
+    assert_eq!(order(&record, count as u64), Err((19, count)));
+    assert_eq!(order(&record, u64::MAX), Err((19, count)));
+    (0..count as u64)
+        .map(|k| print(&order(&record, k).unwrap()).unwrap())
+        .collect()
+}
+
+/// Expects a value, in the one place of the command `A`, to name these arguments.
+#[track_caller]
+pub fn names(value: &str, arguments: &[&str]) {
+    let expected: Vec<String> = arguments.iter().map(|a| format!("A:{a};")).collect();
+    assert_eq!(orders(&format!("A:{value};"), ""), expected, "{value}");
+}
+
+/// Expects a record not to be well formed, whatever the call.
+#[track_caller]
+pub fn not_well_formed(record: &[u8]) {
+    assert_eq!(print(record), Err((18, 0)), "{record:?}");
+    assert_eq!(count(record), Err((18, 0)), "{record:?}");
+    assert_eq!(order(record, 0), Err((18, 0)), "{record:?}");
+}
+
+/// The letters of a record's places.
+pub fn bases_of(record: &[u8]) -> Vec<u8> {
+    fields(record)
+        .into_iter()
+        .filter(|(tag, _)| *tag == 3)
+        .map(|(_, content)| content[0])
+        .collect()
+}
+
+/// The fields of a record, tag and content.
+pub fn fields(mut record: &[u8]) -> Vec<(u8, Vec<u8>)> {
+    let mut fields = Vec::new();
+    while let [tag, high, low, rest @ ..] = record {
+        let length = *high as usize * 256 + *low as usize;
+        fields.push((*tag, rest[..length].to_vec()));
+        record = &rest[length..];
+    }
+    fields
+}
+
+/// One field.
+pub fn field(tag: u8, content: &[u8]) -> Vec<u8> {
+    let mut field = vec![tag, (content.len() >> 8) as u8, content.len() as u8];
+    field.extend_from_slice(content);
+    field
+}
+
+/// A numeral's field.
+pub fn numeral(letter: u8, fraction: u8, value: u32) -> Vec<u8> {
+    let mut content = vec![letter, fraction];
+    content.extend_from_slice(&value.to_be_bytes());
+    field(7, &content)
+}
+
+/// A range element's field.
+pub fn range(upper: u32, increment: u32) -> Vec<u8> {
+    let mut content = upper.to_be_bytes().to_vec();
+    content.extend_from_slice(&increment.to_be_bytes());
+    field(6, &content)
+}
+
+/// A single element's field.
+pub fn single() -> Vec<u8> {
+    field(5, b"")
+}
+
+/// The command `A` with one place of this base, its fields behind the place's.
+pub fn in_place(base: u8, rest: &[Vec<u8>]) -> Vec<u8> {
+    let start = [field(1, b"A"), field(2, b"P"), field(3, &[base])];
+    [start.concat(), rest.concat()].concat()
+}
+
+/// The command `A` with one place of this base whose value is this one unit.
+pub fn with_unit(base: u8, unit: Vec<u8>) -> Vec<u8> {
+    in_place(base, &[single(), unit])
+}
+
+/// Bytes from hexadecimal digits; spaces are nothing.
+pub fn hex(digits: &str) -> Vec<u8> {
+    let digits: Vec<u32> = digits.chars().filter_map(|c| c.to_digit(16)).collect();
+    digits.chunks(2).map(|d| (d[0] * 16 + d[1]) as u8).collect()
+}
