@@ -19,9 +19,6 @@ ghost use Rattle.bases.specs.Bases.{basesIn, baseIn};
 ghost use Rattle.parts.specs.Parts.{placeOr};
 ghost use Rattle.places.specs.Places.{valueRead, placeRead, cutIn, Sized};
 
-// The kind of `=`.
-const EQUALS: u8 = 8;
-
 // "33rd place of the command"
 const MOST_PLACES: usize = 32;
 // "A name is 1 to 4 pieces": so many behind the first.
@@ -72,77 +69,48 @@ fn position(toks: &[u64], contents: &[u8], bases: &[u8], n: usize, end: u32) -> 
     ensures { λ r. ⌜ r ≡ placeRead (readPosition (baseIn (now (bases .entry)) n) (tokensIn (now (contents .entry)) (now (toks .entry))) end) ⌝ }
 {
     if toks.len() == 0 {
-        return PlaceRead::Fine {
-            args: 1,
-            at: end,
-            bytes: PLACE_FIELD,
-        };
+        return PlaceRead::Fine { args: 1, at: end, bytes: PLACE_FIELD };
     }
     value(toks, contents, bases, n, PLACE_FIELD, end)
 }
 
 // The n-th place, named: its `=` is the token at index `equals`.
-fn named_place(
-    toks: &[u64],
-    contents: &[u8],
-    bases: &[u8],
-    n: usize,
-    equals: usize,
-    end: u32,
-) -> PlaceRead
+fn named_place(toks: &[u64], contents: &[u8], bases: &[u8], n: usize, equals: usize, end: u32) -> PlaceRead
     requires { ⌜ equals < length (now toks) ⌝ }
     ensures { λ r. ⌜ r ≡ placeRead (readNamed (baseIn (now (bases .entry)) n) (cutIn (now (contents .entry)) (now (toks .entry)) equals) end) ⌝ }
 {
-    match pieces::pieces(
-        &toks[..equals],
-        contents,
-        true,
-        MORE_OF_NAME,
-        WRONG_NAME,
-        table::place(toks[equals]),
-    ) {
+    match pieces::pieces(&toks[..equals], contents, true, MORE_OF_NAME, WRONG_NAME, table::place(toks[equals])) {
         Verdict::Refused { no, place } => PlaceRead::Refused { no, place },
         Verdict::Fine => {
-            let head = parts::cap(
-                PLACE_FIELD as u64 + parts::pieces_len(&toks[..equals], contents) as u64,
-            );
+            let head = parts::cap(PLACE_FIELD as u64 + parts::pieces_len(&toks[..equals], contents) as u64);
             value(&toks[equals + 1..], contents, bases, n, head, end)
         }
     }
 }
 
+// A place that is refused: it is shown by its first token, or by the separator that ends it.
+fn refused(toks: &[u64], no: u8, end: u32) -> PlaceRead
+    ensures { λ r. ⌜ r ≡ PlaceRead.Refused no (placeOr (now (toks .entry)) end) ⌝ }
+{
+    PlaceRead::Refused { no, place: parts::place_at(toks, 0, end) }
+}
+
 // The n-th place of a command, in a block whose places are named or not.
-pub fn place(
-    toks: &[u64],
-    contents: &[u8],
-    bases: &[u8],
-    named: bool,
-    n: usize,
-    end: u32,
-) -> PlaceRead
+pub fn place(toks: &[u64], contents: &[u8], bases: &[u8], named: bool, n: usize, end: u32) -> PlaceRead
     ensures { λ r. ⌜ r ≡ placeRead (readPlace named (basesIn (now (bases .entry))) n (seg (tokensIn (now (contents .entry)) (now (toks .entry))) end)) ⌝ }
 {
     if MOST_PLACES <= n {
-        return PlaceRead::Refused {
-            no: TOO_MANY,
-            place: parts::place_at(toks, 0, end),
-        };
+        return refused(toks, TOO_MANY, end);
     }
-    let equals = parts::find(toks, 0, EQUALS);
+    let equals = parts::find(toks, 0, table::EQUALS);
     if equals < toks.len() {
         if named {
             return named_place(toks, contents, bases, n, equals, end);
         }
-        return PlaceRead::Refused {
-            no: KIND_DIFFERS,
-            place: parts::place_at(toks, 0, end),
-        };
+        return refused(toks, KIND_DIFFERS, end);
     }
     if named {
-        return PlaceRead::Refused {
-            no: KIND_DIFFERS,
-            place: parts::place_at(toks, 0, end),
-        };
+        return refused(toks, KIND_DIFFERS, end);
     }
     position(toks, contents, bases, n, end)
 }

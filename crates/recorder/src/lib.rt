@@ -18,22 +18,10 @@ ghost use Rattle.table.specs.Table.{contentIn};
 ghost use Rattle.parts.specs.Parts.{wordsIn, wordsSize};
 ghost use Rattle.recorder.specs.Recorder.{wordBytes, NameFits, PutName, PlaceFits, PutPlace, PlacesFit, PutPlaces, BlockFits, PutBlock, BlocksFit, PutBlocks, SegmentsFit, PutSegments, CommandFits, PutCommand};
 
-// The kinds of the separators that part a command.
-const COMMA: u8 = 6;
-
-const COLON: u8 = 7;
-
-const EQUALS: u8 = 8;
-
-const SEMI: u8 = 9;
-
 // The tags of the fields.
 const CODE: u8 = 1;
-
 const BLOCK: u8 = 2;
-
 const PLACE: u8 = 3;
-
 const NAME: u8 = 4;
 
 // What was written: the number of bytes, and the number of places so far.
@@ -82,20 +70,13 @@ fn put_name(out: &mut [u8], toks: &[u64], contents: &[u8], base: u8) -> usize
     requires { ⌜ NameFits (now toks) (now contents) base (length (now out)) ⌝ }
     ensures { λ r. ⌜ PutName (now (toks .entry)) (now (contents .entry)) base r (now (out .entry)) (now (out .exit)) ⌝ }
 {
-    let k = parts::find(toks, 0, EQUALS);
+    let k = parts::find(toks, 0, table::EQUALS);
     let p = put_pieces(out, NAME, &toks[..k], contents);
     p + writes::put_value(&mut out[p..], &toks[k + 1..], contents, base)
 }
 
 // The n-th place of the command, named or not.
-fn put_place(
-    out: &mut [u8],
-    toks: &[u64],
-    contents: &[u8],
-    bases: &[u8],
-    named: bool,
-    n: usize,
-) -> usize
+fn put_place(out: &mut [u8], toks: &[u64], contents: &[u8], bases: &[u8], named: bool, n: usize) -> usize
     requires { ⌜ PlaceFits (now toks) (now contents) (now bases) named n (length (now out)) ⌝ }
     ensures { λ r. ⌜ PutPlace (now (toks .entry)) (now (contents .entry)) (now (bases .entry)) named n r (now (out .entry)) (now (out .exit)) ⌝ }
 {
@@ -111,14 +92,7 @@ fn put_place(
 }
 
 // The places of a block, the first of them the n-th of the command.
-fn put_places(
-    out: &mut [u8],
-    toks: &[u64],
-    contents: &[u8],
-    bases: &[u8],
-    named: bool,
-    first: usize,
-) -> Put
+fn put_places(out: &mut [u8], toks: &[u64], contents: &[u8], bases: &[u8], named: bool, first: usize) -> Put
     requires { ⌜ PlacesFit (now toks) (now contents) (now bases) named first (length (now out)) ⌝ }
     ensures { λ r. ⌜ PutPlaces (now (toks .entry)) (now (contents .entry)) (now (bases .entry)) named first (r .bytes) (r .places) (now (out .entry)) (now (out .exit)) ⌝ }
 {
@@ -126,15 +100,12 @@ fn put_places(
     let mut n = first;
     let mut k: usize = 0;
     while i <= toks.len() {
-        let j = parts::find(toks, i, COMMA);
+        let j = parts::find(toks, i, table::COMMA);
         k += put_place(&mut out[k..], &toks[i..j], contents, bases, named, n);
         n += 1;
         i = j + 1;
     }
-    Put {
-        bytes: k,
-        places: n,
-    }
+    Put { bytes: k, places: n }
 }
 
 // The letter of a block's kind.
@@ -155,10 +126,7 @@ fn put_block(out: &mut [u8], toks: &[u64], contents: &[u8], bases: &[u8], first:
     let named = blocks::is_named(toks);
     let p = put_byte(out, BLOCK, kind_letter(named));
     let r = put_places(&mut out[p..], toks, contents, bases, named, first);
-    Put {
-        bytes: p + r.bytes,
-        places: r.places,
-    }
+    Put { bytes: p + r.bytes, places: r.places }
 }
 
 // The blocks from the one that begins at index `from` on.
@@ -170,7 +138,7 @@ fn put_blocks(out: &mut [u8], toks: &[u64], contents: &[u8], bases: &[u8], from:
     let mut n: usize = 0;
     let mut k: usize = 0;
     while i <= toks.len() {
-        let j = parts::find(toks, i, COLON);
+        let j = parts::find(toks, i, table::COLON);
         let r = put_block(&mut out[k..], &toks[i..j], contents, bases, n);
         k += r.bytes;
         n = r.places;
@@ -184,7 +152,7 @@ fn put_segments(out: &mut [u8], toks: &[u64], contents: &[u8], bases: &[u8]) -> 
     requires { ⌜ SegmentsFit (now toks) (now contents) (now bases) (length (now out)) ⌝ }
     ensures { λ r. ⌜ PutSegments (now (toks .entry)) (now (contents .entry)) (now (bases .entry)) r (now (out .entry)) (now (out .exit)) ⌝ }
 {
-    let k = parts::find(toks, 0, COLON);
+    let k = parts::find(toks, 0, table::COLON);
     let p = put_pieces(out, CODE, &toks[..k], contents);
     p + put_blocks(&mut out[p..], toks, contents, bases, k + 1)
 }
@@ -194,6 +162,6 @@ pub fn put_command(out: &mut [u8], toks: &[u64], contents: &[u8], bases: &[u8]) 
     requires { ⌜ CommandFits (now toks) (now contents) (now bases) (length (now out)) ⌝ }
     ensures { λ r. ⌜ PutCommand (now (toks .entry)) (now (contents .entry)) (now (bases .entry)) r (now (out .entry)) (now (out .exit)) ⌝ }
 {
-    let k = parts::find(toks, 0, SEMI);
+    let k = parts::find(toks, 0, table::SEMICOLON);
     put_segments(out, &toks[..k], contents, bases)
 }

@@ -5,51 +5,51 @@ use Rattle.places.proofs.place.Tie as tie
 use Rattle.places.proofs.place.Reads as reads
 use Rattle.places.proofs.place.Lts as lts
 use Rattle.parts.proofs.find.Reads as find-reads
-use Rattle.parts.proofs.place_at.Reads as place-at-reads
 use Rattle.places.proofs.named_place.Reads as named-place-reads
 use Rattle.places.proofs.position.Reads as position-reads
+use Rattle.places.proofs.refused.Reads as refused-reads
 
--- src/lib.rt:98:58
-place-at-requires : tie.Need-place-at-requires
-place-at-requires c κs = search needs
+-- src/lib.rt:103:9
+refused-requires : tie.Need-refused-requires
+refused-requires c κs = search needs
 
--- src/lib.rt:98:9
+-- src/lib.rt:103:9
 returns : tie.Need-returns
 returns c = search (needs, place-many)
 
--- src/lib.rt:100:9
+-- src/lib.rt:105:9
 find-requires : tie.Need-find-requires
 find-requires c κs = search needs
 
--- src/lib.rt:103:13
+-- src/lib.rt:108:13
 named-place-requires : tie.Need-named-place-requires
 named-place-requires c κs = search needs
 
--- src/lib.rt:103:13
+-- src/lib.rt:108:13
 returns-2 : tie.Need-returns-2
 returns-2 c = search (needs, place-named)
 
--- src/lib.rt:105:62
-place-at-requires-2 : tie.Need-place-at-requires-2
-place-at-requires-2 c κs = search needs
+-- src/lib.rt:110:9
+refused-requires-2 : tie.Need-refused-requires-2
+refused-requires-2 c κs = search needs
 
--- src/lib.rt:105:9
+-- src/lib.rt:110:9
 returns-3 : tie.Need-returns-3
 returns-3 c = search (needs, place-cut)
 
--- src/lib.rt:108:62
-place-at-requires-3 : tie.Need-place-at-requires-3
-place-at-requires-3 c κs = search needs
+-- src/lib.rt:113:9
+refused-requires-3 : tie.Need-refused-requires-3
+refused-requires-3 c κs = search needs
 
--- src/lib.rt:108:9
+-- src/lib.rt:113:9
 returns-4 : tie.Need-returns-4
 returns-4 c = search (needs, place-uncut)
 
--- src/lib.rt:110:5
+-- src/lib.rt:115:5
 position-requires : tie.Need-position-requires
 position-requires c κs = search needs
 
--- src/lib.rt:94:1
+-- src/lib.rt:99:1
 returns-5 : tie.Need-returns-5
 returns-5 c = search (needs, place-position)
 
@@ -57,14 +57,14 @@ pub place-spec : {M : Type 1} → statement M
 place-spec =
     tie.close
     (tie.spec
-    place-at-requires
+    refused-requires
     returns
     find-requires
     named-place-requires
     returns-2
-    place-at-requires-2
+    refused-requires-2
     returns-3
-    place-at-requires-3
+    refused-requires-3
     returns-4
     position-requires
     returns-5)
