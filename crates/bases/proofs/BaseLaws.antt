@@ -69,9 +69,9 @@ letters-are i [] bs h = sym (ok-inj h)
 letters-are i (l ∷ ls) bs h =
     byBool (ltb i 32)
     (λ y. byOption (baseOf l)
-      (λ z. ok≢bad (rw (y, readLetters, z) at h))
-      (λ b z. map-ok (λ bs. b ∷ bs) (readLetters (suc i) ls) bs (rw (y, readLetters, z) at h)
-        (λ bs′ a r. sym r ∙ ap₂ (λ x xs. x ∷ xs) (same l b z) (letters-are (suc i) ls bs′ a))))
+    (λ z. ok≢bad (rw (y, readLetters, z) at h))
+    (λ b z. map-ok (λ bs. b ∷ bs) (readLetters (suc i) ls) bs (rw (y, readLetters, z) at h)
+    (λ bs′ a r. sym r ∙ ap₂ (λ x xs. x ∷ xs) (same l b z) (letters-are (suc i) ls bs′ a))))
     (λ y. ok≢bad (rw (y, readLetters) at h))
   where
     same : (l : ℕ) (b : Base) → baseOf l ≡ some b → b ≡ baseAt l

@@ -29,12 +29,18 @@ pub fn letters(bases: &[u8]) -> Verdict
     let mut i: usize = 0;
     while i < bases.len() {
         if MOST_LETTERS <= i {
-            return Verdict::Refused { no: WRONG_LETTER, place: i as u32 };
+            return Verdict::Refused {
+                no: WRONG_LETTER,
+                place: i as u32,
+            };
         }
         if is_letter(bases[i]) {
             i += 1;
         } else {
-            return Verdict::Refused { no: WRONG_LETTER, place: i as u32 };
+            return Verdict::Refused {
+                no: WRONG_LETTER,
+                place: i as u32,
+            };
         }
     }
     Verdict::Fine

@@ -54,14 +54,14 @@ tally-end c xs z h =
     let q : ordersOf t ≡ runningBlocks 1 xs = orders-blocks (begun z) xs in
     byBool (t .over)
     (λ y.
-      let r : runningBlocks 1 xs ≡ bad 16 (t .at) = sym q ∙ rw y in
-      rw (y, r))
+    let r : runningBlocks 1 xs ≡ bad 16 (t .at) = sym q ∙ rw y in
+    rw (y, r))
     (λ y.
-      let r : runningBlocks 1 xs ≡ ok (t .product) = sym q ∙ rw y in
-      let s : t .bytes ≡ capped (length (encode (command c (map blockOf xs))))
-          = sym (cap-small (t .bytes) (small-blocks (begun z) xs (cap-most (wordsSize c) h))) ∙ bytes-blocks (begun z) xs
-            ∙ rw (h, cap-cap (wordsSize c) (blocksSize xs), code-size c xs) in
-      rw (y, r, s))
+    let r : runningBlocks 1 xs ≡ ok (t .product) = sym q ∙ rw y in
+    let s : t .bytes ≡ capped (length (encode (command c (map blockOf xs))))
+    = sym (cap-small (t .bytes) (small-blocks (begun z) xs (cap-most (wordsSize c) h))) ∙ bytes-blocks (begun z) xs
+    ∙ rw (h, cap-cap (wordsSize c) (blocksSize xs), code-size c xs) in
+    rw (y, r, s))
 
 -- ---- the code and the blocks
 
@@ -71,8 +71,12 @@ module _ (bs : List Base) (ts cs : List ℕ) (e : ℕ) where
   unfolding piecesAt
   segments-wrong n p {k} {o} f g i j =
       let w : k - 0 ≡ k = omega arith in
-      rw (← parts-all colon e cs ts, parts-next colon e cs ts 0 (omega arith) f g, w,
-        verdict-bad (pieces 8 isIdentifier isIdentifier 2 true (tokensIn cs (take k ts)) o) n p (sym i ∙ j))
+      rw (
+        ← parts-all colon e cs ts,
+        parts-next colon e cs ts 0 (omega arith) f g,
+        w,
+        verdict-bad (pieces 8 isIdentifier isIdentifier 2 true (tokensIn cs (take k ts)) o) n p (sym i ∙ j),
+      )
 
   pub segments-fine : {k o z : ℕ} {v : Verdict} {x : Tallied} {r : Checked} → k ≡ 0 + before 7 (drop 0 ts) → o ≡ placeOr (drop k ts) e → v ≡ piecesAt 8 false false 2 true cs (take k ts) o → v ≡ Good
       → z ≡ capped (wordsSize (wordsIn true cs (take k ts))) → x ≡ blocksRead (begun z) (readBlocks bs 0 0 o (partsFrom colon e cs ts (k + 1))) → r ≡ tallyRead x
@@ -82,11 +86,11 @@ module _ (bs : List Base) (ts cs : List ℕ) (e : ℕ) where
       let w : k - 0 ≡ k = omega arith in
       verdict-ok (pieces 8 isIdentifier isIdentifier 2 true (tokensIn cs (take k ts)) o) (sym i ∙ j)
       (λ c a.
-        let y : z ≡ capped (wordsSize c) = rw (pieces-words cs (take k ts) true 8 isIdentifier isIdentifier 2 o c a) l in
-        rw (n, m, ← parts-all colon e cs ts, parts-next colon e cs ts 0 (omega arith) f g, w, a)
-        (byRes (readBlocks bs 0 0 o (partsFrom colon e cs ts (k + 1)))
-          (λ xs b. rw b (tally-end c xs z y))
-          (λ n p b. rw b)))
+      let y : z ≡ capped (wordsSize c) = rw (pieces-words cs (take k ts) true 8 isIdentifier isIdentifier 2 o c a) l in
+      rw (n, m, ← parts-all colon e cs ts, parts-next colon e cs ts 0 (omega arith) f g, w, a)
+      (byRes (readBlocks bs 0 0 o (partsFrom colon e cs ts (k + 1)))
+      (λ xs b. rw b (tally-end c xs z y))
+      (λ n p b. rw b)))
 
 -- ---- 6, 7
 

@@ -51,7 +51,7 @@ place-few k bs ts cs e n a o z q h =
     byBool (ltb n 32)
     (λ y. ltb-true n 32 y)
     (λ y. let f : PlaceFine a o z ≡ PlaceRefused 15 (first (tokensIn cs ts) e) = sym h ∙ q ∙ rw y in
-      let w : _≡_ {A = ℕ} 0 1 = cc in absurd (omega arith))
+    let w : _≡_ {A = ℕ} 0 1 = cc in absurd (omega arith))
 
 module _ (k : Bool) (bs : List Base) (ts cs : List ℕ) (e i : ℕ) (t : Tally) where
   pub places-more : (a o z : ℕ) {j p : ℕ} {x : PlaceRead} {u : Tally} {r : Tallied} → r ≡ placesRead t (readPlaces k bs (t .places) (partsFrom comma e cs ts i)) → i ≤ length ts

@@ -30,7 +30,8 @@ counted t a p z =
       bytes = capped (t .bytes + z);
       product = cond (t .over) (t .product) (cond fits (t .product * a) (t .product));
       over = t .over || not fits;
-      at = cond (t .over) (t .at) (cond fits (t .at) p) }
+      at = cond (t .over) (t .at) (cond fits (t .at) p);
+    }
 
 -- a block's own field more
 abbrev pub opened : Tally → Tally

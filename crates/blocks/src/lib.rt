@@ -66,13 +66,31 @@ fn count(t: Tally, args: u32, at: u32, bytes: u32) -> Tally
     let places = t.places + 1;
     let size = parts::cap(t.bytes as u64 + bytes as u64);
     if t.over {
-        return Tally { places, bytes: size, product: t.product, over: true, at: t.at };
+        return Tally {
+            places,
+            bytes: size,
+            product: t.product,
+            over: true,
+            at: t.at,
+        };
     }
     let product = t.product as u64 * args as u64;
     if product <= MOST_ORDERS {
-        return Tally { places, bytes: size, product: product as u32, over: false, at: t.at };
+        return Tally {
+            places,
+            bytes: size,
+            product: product as u32,
+            over: false,
+            at: t.at,
+        };
     }
-    Tally { places, bytes: size, product: t.product, over: true, at }
+    Tally {
+        places,
+        bytes: size,
+        product: t.product,
+        over: true,
+        at,
+    }
 }
 
 // The tally with one block's field more.
@@ -80,11 +98,24 @@ fn open_block(t: Tally) -> Tally
     ensures { λ r. ⌜ r ≡ opened t ⌝ }
 {
     let size = parts::cap(t.bytes as u64 + BLOCK_FIELD);
-    Tally { places: t.places, bytes: size, product: t.product, over: t.over, at: t.at }
+    Tally {
+        places: t.places,
+        bytes: size,
+        product: t.product,
+        over: t.over,
+        at: t.at,
+    }
 }
 
 // The places of a block, named or not.
-fn read_places(toks: &[u64], contents: &[u8], bases: &[u8], named: bool, end: u32, start: Tally) -> Tallied
+fn read_places(
+    toks: &[u64],
+    contents: &[u8],
+    bases: &[u8],
+    named: bool,
+    end: u32,
+    start: Tally,
+) -> Tallied
     ensures { λ r. ⌜ r ≡ placesRead start
         (readPlaces named (basesIn (now (bases .entry))) (start .places) (split comma end (tokensIn (now (contents .entry)) (now (toks .entry))))) ⌝ }
 {
@@ -92,7 +123,14 @@ fn read_places(toks: &[u64], contents: &[u8], bases: &[u8], named: bool, end: u3
     let mut t = start;
     while i <= toks.len() {
         let k = parts::find(toks, i, table::COMMA);
-        match places::place(&toks[i..k], contents, bases, named, t.places, parts::place_at(toks, k, end)) {
+        match places::place(
+            &toks[i..k],
+            contents,
+            bases,
+            named,
+            t.places,
+            parts::place_at(toks, k, end),
+        ) {
             PlaceRead::Refused { no, place } => return Tallied::Refused { no, place },
             PlaceRead::Fine { args, at, bytes } => {
                 t = count(t, args, at, bytes);
@@ -120,7 +158,15 @@ fn block(toks: &[u64], contents: &[u8], bases: &[u8], end: u32, t: Tally) -> Tal
 }
 
 // The blocks from the one that begins at index `from` on, its `:` at the place `before`.
-fn read_blocks(toks: &[u64], contents: &[u8], bases: &[u8], from: usize, before: u32, end: u32, start: Tally) -> Tallied
+fn read_blocks(
+    toks: &[u64],
+    contents: &[u8],
+    bases: &[u8],
+    from: usize,
+    before: u32,
+    end: u32,
+    start: Tally,
+) -> Tallied
     ensures { λ r. ⌜ r ≡ blocksRead start
         (readBlocks (basesIn (now (bases .entry))) 0 (start .places) before (partsFrom colon end (now (contents .entry)) (now (toks .entry)) from)) ⌝ }
 {
@@ -130,7 +176,10 @@ fn read_blocks(toks: &[u64], contents: &[u8], bases: &[u8], from: usize, before:
     let mut t = start;
     while i <= toks.len() {
         if MOST_BLOCKS <= m {
-            return Tallied::Refused { no: TOO_MANY, place: at };
+            return Tallied::Refused {
+                no: TOO_MANY,
+                place: at,
+            };
         }
         let k = parts::find(toks, i, table::COLON);
         at = parts::place_at(toks, k, end);
@@ -154,7 +203,10 @@ fn finish(blocks: Tallied) -> Checked
         Tallied::Refused { no, place } => Checked::Refused { no, place },
         Tallied::Fine(t) => {
             if t.over {
-                return Checked::Refused { no: TOO_MANY_ORDERS, place: t.at };
+                return Checked::Refused {
+                    no: TOO_MANY_ORDERS,
+                    place: t.at,
+                };
             }
             Checked::Fine { bytes: t.bytes }
         }
@@ -171,7 +223,13 @@ fn segments(toks: &[u64], contents: &[u8], bases: &[u8], end: u32) -> Checked
         Verdict::Refused { no, place } => Checked::Refused { no, place },
         Verdict::Fine => {
             let bytes = parts::pieces_len(&toks[..k], contents);
-            let start = Tally { places: 0, bytes, product: 1, over: false, at: 0 };
+            let start = Tally {
+                places: 0,
+                bytes,
+                product: 1,
+                over: false,
+                at: 0,
+            };
             finish(read_blocks(toks, contents, bases, k + 1, at, end, start))
         }
     }
@@ -183,10 +241,16 @@ pub fn command(toks: &[u64], contents: &[u8], bases: &[u8], len: u32) -> Checked
 {
     let k = parts::find(toks, 0, table::SEMICOLON);
     if toks.len() <= k {
-        return Checked::Refused { no: NO_END, place: len };
+        return Checked::Refused {
+            no: NO_END,
+            place: len,
+        };
     }
     if k + 1 < toks.len() {
-        return Checked::Refused { no: AFTER_END, place: table::place(toks[k + 1]) };
+        return Checked::Refused {
+            no: AFTER_END,
+            place: table::place(toks[k + 1]),
+        };
     }
     segments(&toks[..k], contents, bases, table::place(toks[k]))
 }

@@ -38,10 +38,10 @@ sep-kind s k w =
     byBool (ltb k 10)
     (λ y. rw (y, sep-code k (ltb-true k 10 y)) (eqb-sym (sepCode s) k))
     (λ y.
-      let l = ltb-false k 10 y in
-      let z = sep-small s in
-      let n : k ≡ sepCode s → ⊥ = λ e. absurd (omega arith) in
-      byBool (eqb k 10) (λ x. rw (y, x, ne-eqb k (sepCode s) n)) (λ x. rw (y, x, ne-eqb k (sepCode s) n)))
+    let l = ltb-false k 10 y in
+    let z = sep-small s in
+    let n : k ≡ sepCode s → ⊥ = λ e. absurd (omega arith) in
+    byBool (eqb k 10) (λ x. rw (y, x, ne-eqb k (sepCode s) n)) (λ x. rw (y, x, ne-eqb k (sepCode s) n)))
 
 -- ---- the turns of `find`
 
@@ -94,7 +94,7 @@ module _ (s : Sep) (cs : List ℕ) where
       byBool (eqb (kindIn t) (sepCode s))
       (λ y. rw (y, sep-kind s (kindIn t) (contentIn cs t) ∙ y, cutAt))
       (λ y. rw (y, sep-kind s (kindIn t) (contentIn cs t) ∙ y, cutAt, cut-first ts)
-        (cons-behind (tokenIn cs t) (tokensIn cs (take (before (sepCode s) ts) ts)) cs (drop (before (sepCode s) ts) ts)))
+      (cons-behind (tokenIn cs t) (tokensIn cs (take (before (sepCode s) ts) ts)) cs (drop (before (sepCode s) ts) ts)))
 
   -- with k the index found: cut there
   pub cut-at : (ts : List ℕ) {k : ℕ} → k ≡ 0 + before (sepCode s) (drop 0 ts) → k < length ts
@@ -148,8 +148,8 @@ module _ (s : Sep) (e : ℕ) (cs : List ℕ) where
       let d : drop b (drop i ts) ≡ drop k ts = rw (drop-drop, q) in
       rw (le-leb i (length ts) h, n, split-first (drop i ts), d, z)
       (byBool (ltb k (length ts))
-        (λ y. let l = ltb-true k (length ts) y in rw (le-leb (k + 1) (length ts) (omega arith), next ts k l))
-        (λ y. let l = ltb-false k (length ts) y in rw (lt-leb (k + 1) (length ts) (omega arith), drop-of-length-le ts l)))
+      (λ y. let l = ltb-true k (length ts) y in rw (le-leb (k + 1) (length ts) (omega arith), next ts k l))
+      (λ y. let l = ltb-false k (length ts) y in rw (lt-leb (k + 1) (length ts) (omega arith), drop-of-length-le ts l)))
 
 pub found-past : (ts : List ℕ) (i j : ℕ) {k : ℕ} → k ≡ i + before j (drop i ts) → i ≤ k
 found-past ts i j q = omega arith

@@ -37,7 +37,7 @@ pieces-words cs (t ∷ ts) true nr f g left e ws h =
     byOption (piece f (lexOfKind (kindIn t) (contentIn cs t)))
     (λ z. ok≢bad (rw (z, pieces) at h))
     (λ w z. map-ok (λ ws. w ∷ ws) (pieces nr g g left false (tokensIn cs ts) e) ws (rw (z, pieces) at h)
-      (λ ws′ a r. sym r ∙ ap₂ (λ x xs. x ∷ xs) (sym (piece-word f (kindIn t) (contentIn cs t) w z)) (pieces-words cs ts false nr g g left e ws′ a)))
+    (λ ws′ a r. sym r ∙ ap₂ (λ x xs. x ∷ xs) (sym (piece-word f (kindIn t) (contentIn cs t) w z)) (pieces-words cs ts false nr g g left e ws′ a)))
 pieces-words cs (t ∷ ts) false nr f g zero e ws h = ok≢bad h
 pieces-words cs (t ∷ ts) false nr f g (suc left) e ws h =
     byBool (isSep dash (lexOfKind (kindIn t) (contentIn cs t)))
@@ -70,10 +70,10 @@ cap-cap a b =
     byBool (leb a 4294967295)
     (λ y. rw y)
     (λ y.
-      let h = leb-false a 4294967295 y in
-      byBool (leb (4294967295 + b) 4294967295)
-      (λ z. let g = leb-true (4294967295 + b) 4294967295 z in rw (y, z, lt-leb (a + b) 4294967295 (omega arith)) (omega arith))
-      (λ z. rw (y, z, lt-leb (a + b) 4294967295 (omega arith))))
+    let h = leb-false a 4294967295 y in
+    byBool (leb (4294967295 + b) 4294967295)
+    (λ z. let g = leb-true (4294967295 + b) 4294967295 z in rw (y, z, lt-leb (a + b) 4294967295 (omega arith)) (omega arith))
+    (λ z. rw (y, z, lt-leb (a + b) 4294967295 (omega arith))))
 
 pub cap-most : (a : ℕ) {r : ℕ} → r ≡ capped a → r ≤ 4294967295
 unfolding capped

@@ -76,13 +76,13 @@ pub has-read : (ts cs : List ℕ) (b : Base) (e : ℕ) (k a : ℕ) {r : Value} �
 has-read ts cs b e k a q g =
     byRes (readValue b (tokensIn cs ts) e)
     (λ v y.
-      let z : Elements k a ≡ valueAnswer (ok v) = sym g ∙ q ∙ ap valueAnswer y in
-      let s : a ≡ sum (map terms v) = cc in
-      let n : a ≡ valueCount v = s ∙ count-is v (value-some b (tokensIn cs ts) e v y) in
-      record { v = v; is = y; some = some-token b ts cs e v y; args = n; few = omega (arith, few b ts cs e v y) })
+    let z : Elements k a ≡ valueAnswer (ok v) = sym g ∙ q ∙ ap valueAnswer y in
+    let s : a ≡ sum (map terms v) = cc in
+    let n : a ≡ valueCount v = s ∙ count-is v (value-some b (tokensIn cs ts) e v y) in
+    record { v = v; is = y; some = some-token b ts cs e v y; args = n; few = omega (arith, few b ts cs e v y) })
     (λ n p y.
-      let w : Elements k a ≡ valueAnswer (bad n p) = sym g ∙ q ∙ ap valueAnswer y in
-      let z : _≡_ {A = ℕ} 0 1 = cc in absurd (omega arith))
+    let w : Elements k a ≡ valueAnswer (bad n p) = sym g ∙ q ∙ ap valueAnswer y in
+    let z : _≡_ {A = ℕ} 0 1 = cc in absurd (omega arith))
 
 pub faultless : (ts cs : List ℕ) (b : Base) (e a l : ℕ) → HasRead ts cs b e a → l ≡ letter b → Faultless ts cs l
 faultless ts cs b e a l h g = record { base = b; own = g; end = e; es = h .v; is = h .is }
@@ -92,12 +92,12 @@ pub value-wrong : (ts cs : List ℕ) (b : Base) (h e n p : ℕ) {r : Value} → 
 value-wrong ts cs b h e n p q g =
     byRes (readValue b (tokensIn cs ts) e)
     (λ v y.
-      let w : WrongValue n p ≡ valueAnswer (ok v) = sym g ∙ q ∙ ap valueAnswer y in
-      let z : _≡_ {A = ℕ} 0 1 = cc in absurd (omega arith))
+    let w : WrongValue n p ≡ valueAnswer (ok v) = sym g ∙ q ∙ ap valueAnswer y in
+    let z : _≡_ {A = ℕ} 0 1 = cc in absurd (omega arith))
     (λ m o y.
-      let w : WrongValue n p ≡ WrongValue m o = sym g ∙ q ∙ ap valueAnswer y in
-      let i : n ≡ m = cc in let j : p ≡ o = cc in
-      rw (y, i, j))
+    let w : WrongValue n p ≡ WrongValue m o = sym g ∙ q ∙ ap valueAnswer y in
+    let i : n ≡ m = cc in let j : p ≡ o = cc in
+    rw (y, i, j))
 
 pub value-fine : (ts cs : List ℕ) (l : ℕ) (b : Base) (h e a : ℕ) {p z : ℕ} → HasRead ts cs b e a → l ≡ letter b → p ≡ placeIn (getD ts 0 0) → Sized ts cs l h z
     → Fine a p z ≡ valueRead h (placeOr ts e) (readValue b (tokensIn cs ts) e)
@@ -154,7 +154,7 @@ module _ (ts cs : List ℕ) (b : Base) (q e : ℕ) where
   unfolding piecesAt
   named-wrong n p {o} i j k =
       let z : pieces 10 isIdentifier isPiece 3 true (tokensIn cs (take q ts)) (placeIn (getD ts q 0)) ≡ bad n p
-          = rw (← i) (verdict-bad (pieces 10 isIdentifier isPiece 3 true (tokensIn cs (take q ts)) o) n p (sym j ∙ k)) in
+      = rw (← i) (verdict-bad (pieces 10 isIdentifier isPiece 3 true (tokensIn cs (take q ts)) o) n p (sym j ∙ k)) in
       rw z
 
   pub named-fine : {o s h : ℕ} {v : Verdict} {r : PlaceRead} → o ≡ placeIn (getD ts q 0) → v ≡ piecesAt 10 false true 3 true cs (take q ts) o → v ≡ Good
@@ -166,12 +166,12 @@ module _ (ts cs : List ℕ) (b : Base) (q e : ℕ) where
       let us = drop (q + 1) ts in
       verdict-ok (pieces 10 isIdentifier isPiece 3 true (tokensIn cs (take q ts)) o) (sym j ∙ k)
       (λ ws a.
-        let z : pieces 10 isIdentifier isPiece 3 true (tokensIn cs (take q ts)) (placeIn (getD ts q 0)) ≡ ok ws = rw (← i) a in
-        let w : ws ≡ wordsIn true cs (take q ts) = pieces-words cs (take q ts) true 10 isIdentifier isPiece 3 o ws a in
-        let g : h ≡ capped (4 + wordsSize ws) = rw (m, l, w) (cap-right 4 (wordsSize (wordsIn true cs (take q ts)))) in
-        t ∙ byRes (readValue b (tokensIn cs us) e)
-        (λ v y. rw (z, y, first-place cs us e, place-size b ws v, g, cap-cap (4 + wordsSize ws) (valueSize v)))
-        (λ n p y. rw (z, y)))
+      let z : pieces 10 isIdentifier isPiece 3 true (tokensIn cs (take q ts)) (placeIn (getD ts q 0)) ≡ ok ws = rw (← i) a in
+      let w : ws ≡ wordsIn true cs (take q ts) = pieces-words cs (take q ts) true 10 isIdentifier isPiece 3 o ws a in
+      let g : h ≡ capped (4 + wordsSize ws) = rw (m, l, w) (cap-right 4 (wordsSize (wordsIn true cs (take q ts)))) in
+      t ∙ byRes (readValue b (tokensIn cs us) e)
+      (λ v y. rw (z, y, first-place cs us e, place-size b ws v, g, cap-cap (4 + wordsSize ws) (valueSize v)))
+      (λ n p y. rw (z, y)))
 
 -- ---- a place
 

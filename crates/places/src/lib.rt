@@ -69,20 +69,40 @@ fn position(toks: &[u64], contents: &[u8], bases: &[u8], n: usize, end: u32) -> 
     ensures { λ r. ⌜ r ≡ placeRead (readPosition (baseIn (now (bases .entry)) n) (tokensIn (now (contents .entry)) (now (toks .entry))) end) ⌝ }
 {
     if toks.len() == 0 {
-        return PlaceRead::Fine { args: 1, at: end, bytes: PLACE_FIELD };
+        return PlaceRead::Fine {
+            args: 1,
+            at: end,
+            bytes: PLACE_FIELD,
+        };
     }
     value(toks, contents, bases, n, PLACE_FIELD, end)
 }
 
 // The n-th place, named: its `=` is the token at index `equals`.
-fn named_place(toks: &[u64], contents: &[u8], bases: &[u8], n: usize, equals: usize, end: u32) -> PlaceRead
+fn named_place(
+    toks: &[u64],
+    contents: &[u8],
+    bases: &[u8],
+    n: usize,
+    equals: usize,
+    end: u32,
+) -> PlaceRead
     requires { ⌜ equals < length (now toks) ⌝ }
     ensures { λ r. ⌜ r ≡ placeRead (readNamed (baseIn (now (bases .entry)) n) (cutIn (now (contents .entry)) (now (toks .entry)) equals) end) ⌝ }
 {
-    match pieces::pieces(&toks[..equals], contents, true, MORE_OF_NAME, WRONG_NAME, table::place(toks[equals])) {
+    match pieces::pieces(
+        &toks[..equals],
+        contents,
+        true,
+        MORE_OF_NAME,
+        WRONG_NAME,
+        table::place(toks[equals]),
+    ) {
         Verdict::Refused { no, place } => PlaceRead::Refused { no, place },
         Verdict::Fine => {
-            let head = parts::cap(PLACE_FIELD as u64 + parts::pieces_len(&toks[..equals], contents) as u64);
+            let head = parts::cap(
+                PLACE_FIELD as u64 + parts::pieces_len(&toks[..equals], contents) as u64,
+            );
             value(&toks[equals + 1..], contents, bases, n, head, end)
         }
     }
@@ -92,11 +112,21 @@ fn named_place(toks: &[u64], contents: &[u8], bases: &[u8], n: usize, equals: us
 fn refused(toks: &[u64], no: u8, end: u32) -> PlaceRead
     ensures { λ r. ⌜ r ≡ PlaceRead.Refused no (placeOr (now (toks .entry)) end) ⌝ }
 {
-    PlaceRead::Refused { no, place: parts::place_at(toks, 0, end) }
+    PlaceRead::Refused {
+        no,
+        place: parts::place_at(toks, 0, end),
+    }
 }
 
 // The n-th place of a command, in a block whose places are named or not.
-pub fn place(toks: &[u64], contents: &[u8], bases: &[u8], named: bool, n: usize, end: u32) -> PlaceRead
+pub fn place(
+    toks: &[u64],
+    contents: &[u8],
+    bases: &[u8],
+    named: bool,
+    n: usize,
+    end: u32,
+) -> PlaceRead
     ensures { λ r. ⌜ r ≡ placeRead (readPlace named (basesIn (now (bases .entry))) n (seg (tokensIn (now (contents .entry)) (now (toks .entry))) end)) ⌝ }
 {
     if MOST_PLACES <= n {

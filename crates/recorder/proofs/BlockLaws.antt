@@ -63,10 +63,14 @@ module _ (ts cs ls : List ℕ) (k : Bool) (n₀ : ℕ) (old : List ℕ) (i n z :
       bind-ok (readPlace k (basesIn ls) n s) (λ x. mapR (λ xs. x ∷ xs) (readPlaces k (basesIn ls) (suc n) us)) (w .rest) (rw (parts-next comma e cs ts i h f refl) at (w .is))
       (λ x a g. map-ok (λ xs. x ∷ xs) (readPlaces k (basesIn ls) (suc n) us) (w .rest) g
       (λ more a′ r. record {
-        x = x; more = more; here = a; behind = rw (add-one n) a′;
+        x = x;
+        more = more;
+        here = a;
+        behind = rw (add-one n) a′;
         at = subst (λ (l : List ℕ). Writing (placesBytes xs) l old z o) (sym (ap placesBytes r) ∙ bytes-append (placeFields (unplaced x)) (many placeFields (map unplaced more))) (w .at);
         count = omega (arith, w .count, ap length r);
-        few = guard-ok (ltb n 32) 15 _ _ x a (λ y _. ltb-true n 32 y) }))
+        few = guard-ok (ltb n 32) 15 _ _ x a (λ y _. ltb-true n 32 y);
+      }))
 
   module _ (v : Placing ts cs ls k n₀ old i n z o) where
     module _ {j : ℕ} (w : PlacesFit ts cs ls k n₀ (length old)) (h : i ≤ length ts) (f : j ≡ i + before 6 (drop i ts)) where
@@ -84,8 +88,11 @@ module _ (ts cs ls : List ℕ) (k : Bool) (n₀ : ℕ) (old : List ℕ) (i n z :
           let x = placeBytes (now′ .x) in
           let m = placesBytes (now′ .more) in
           record {
-            end = placeOr (drop j ts) (w .end); x = now′ .x; is = now′ .here;
-            fits = omega (arith, writing-room (x ++ m) (now′ .at) (w .fits), writing-long (x ++ m) (now′ .at) (w .fits), length-append x m, length-part o z) }
+            end = placeOr (drop j ts) (w .end);
+            x = now′ .x;
+            is = now′ .here;
+            fits = omega (arith, writing-room (x ++ m) (now′ .at) (w .fits), writing-long (x ++ m) (now′ .at) (w .fits), length-append x m, length-part o z);
+          }
 
     pub placing-long : PlacesFit ts cs ls k n₀ (length old) → length o ≡ length old
     placing-long w = let l = v (w .end) (w .xs) (w .is) in writing-long (placesBytes (l .rest)) (l .at) (w .fits)
@@ -128,8 +135,11 @@ module _ (ts cs ls : List ℕ) (n : ℕ) {k : Bool} (g : HasKind ts k) where
     block-places w =
         let i = block-is (w .end) (w .b) (w .is) in
         record {
-          end = w .end; xs = i .xs; is = i .places;
-          fits = room-behind (fieldBytes (field 2 (cond k (byte "N") (byte "P") ∷ []))) (placesBytes (i .xs)) old v (omega (arith, ap length (i .bytes), w .fits)) }
+          end = w .end;
+          xs = i .xs;
+          is = i .places;
+          fits = room-behind (fieldBytes (field 2 (cond k (byte "N") (byte "P") ∷ []))) (placesBytes (i .xs)) old v (omega (arith, ap length (i .bytes), w .fits));
+        }
 
     pub block-put : {r m : ℕ} {ys : List ℕ} → PutPlaces ts cs ls k n r m (part xs p) ys → PutBlock ts cs ls n (p + r) m old (back xs p ys)
     block-put w e b h =
@@ -171,8 +181,13 @@ module _ (ts cs ls : List ℕ) (i₀ : ℕ) (old : List ℕ) (i n z : ℕ) (o : 
       (λ y g. bind-ok (readBlock (basesIn ls) n (split comma p (tokensIn cs (take (j - i) (drop i ts))))) (λ b. mapR (λ r. b ∷ r) (readBlocks (basesIn ls) (suc (w .m)) (n + blockSize b) p us)) (w .rest) g
       (λ b a g2. map-ok (λ r. b ∷ r) (readBlocks (basesIn ls) (suc (w .m)) (n + blockSize b) p us) (w .rest) g2
       (λ more a′ r. record {
-        m = suc (w .m); b = b; more = more; here = a; behind = a′;
-        at = subst (λ (l : List ℕ). Writing (blocksBytes bs) l old z o) (sym (ap blocksBytes r) ∙ bytes-append (blockFields (blockOf b)) (many blockFields (map blockOf more))) (w .at) })))
+        m = suc (w .m);
+        b = b;
+        more = more;
+        here = a;
+        behind = a′;
+        at = subst (λ (l : List ℕ). Writing (blocksBytes bs) l old z o) (sym (ap blocksBytes r) ∙ bytes-append (blockFields (blockOf b)) (many blockFields (map blockOf more))) (w .at);
+      })))
 
   module _ (v : Blocking ts cs ls i₀ old i n z o) where
     module _ {j : ℕ} (w : BlocksFit ts cs ls i₀ (length old)) (h : i ≤ length ts) (f : j ≡ i + before 7 (drop i ts)) where
@@ -187,8 +202,11 @@ module _ (ts cs ls : List ℕ) (i₀ : ℕ) (old : List ℕ) (i n z : ℕ) (o : 
           let x = blockBytes (here′ .b) in
           let m = blocksBytes (here′ .more) in
           record {
-            end = placeOr (drop j ts) (w .end); b = here′ .b; is = here′ .here;
-            fits = omega (arith, writing-room (x ++ m) (here′ .at) (w .fits), writing-long (x ++ m) (here′ .at) (w .fits), length-append x m, length-part o z) }
+            end = placeOr (drop j ts) (w .end);
+            b = here′ .b;
+            is = here′ .here;
+            fits = omega (arith, writing-room (x ++ m) (here′ .at) (w .fits), writing-long (x ++ m) (here′ .at) (w .fits), length-append x m, length-part o z);
+          }
 
     pub blocking-long : BlocksFit ts cs ls i₀ (length old) → length o ≡ length old
     blocking-long w = let l = v (w .end) (w .q) (w .bs) (w .is) in writing-long (blocksBytes (l .rest)) (l .at) (w .fits)
@@ -199,8 +217,12 @@ module _ (ts cs ls : List ℕ) (i₀ : ℕ) (old : List ℕ) (i n z : ℕ) (o : 
         let x = next-block e bs h f (v e q bs g) in
         let w = p (placeOr (drop j ts) e) (x .b) (x .here) in
         record {
-          m = x .m; q = placeOr (drop j ts) e; rest = x .more; is = rw (w .0) (x .behind);
-          at = writing-more (blockBytes (x .b)) (blocksBytes (x .more)) (x .at) (w .1) }
+          m = x .m;
+          q = placeOr (drop j ts) e;
+          rest = x .more;
+          is = rw (w .0) (x .behind);
+          at = writing-more (blockBytes (x .b)) (blocksBytes (x .more)) (x .at) (w .1);
+        }
 
     pub blocking-all : length ts < i → PutBlocks ts cs ls i₀ z old o
     blocking-all h e q bs g =
@@ -222,12 +244,15 @@ module _ (ts cs ls : List ℕ) {k : ℕ} (f : k ≡ 0 + before 7 (drop 0 ts)) wh
       let z : k - 0 ≡ k = omega arith in
       let p = placeOr (drop k ts) e in
       bind-ok (pieces 8 isIdentifier isIdentifier 2 true (tokensIn cs (take k ts)) p) _ c
-        (rw (← parts-all colon e cs ts, parts-next colon e cs ts 0 (omega arith) f refl, z) at h)
+      (rw (← parts-all colon e cs ts, parts-next colon e cs ts 0 (omega arith) f refl, z) at h)
       (λ ws a h1. bind-ok (readBlocks (basesIn ls) 0 0 p (partsFrom colon e cs ts (k + 1))) _ c h1
       (λ bs b h2. bind-ok (runningBlocks 1 bs) (λ _. ok (command ws (map blockOf bs))) c h2
       (λ m d h3. record {
-        q = p; bs = bs; blocks = b;
-        bytes = rw (← (ok-inj h3), bytes-append (map (λ w. field 1 w) ws) (many blockFields (map blockOf bs)), pieces-words cs (take k ts) true 8 isIdentifier isIdentifier 2 p ws a) })))
+        q = p;
+        bs = bs;
+        blocks = b;
+        bytes = rw (← (ok-inj h3), bytes-append (map (λ w. field 1 w) ws) (many blockFields (map blockOf bs)), pieces-words cs (take k ts) true 8 isIdentifier isIdentifier 2 p ws a);
+      })))
 
   module _ (room : ℕ) (w : SegmentsFit ts cs ls room) where
     are : SegmentsAre ts cs ls k (w .end) (w .c)
@@ -246,8 +271,12 @@ module _ (ts cs ls : List ℕ) {k : ℕ} (f : k ≡ 0 + before 7 (drop 0 ts)) wh
     segments-blocks w =
         let i = are (length old) w in
         record {
-          end = w .end; q = i .q; bs = i .bs; is = i .blocks;
-          fits = room-behind (wordBytes 1 (wordsIn true cs (take k ts))) (blocksBytes (i .bs)) old v (both (length old) w) }
+          end = w .end;
+          q = i .q;
+          bs = i .bs;
+          is = i .blocks;
+          fits = room-behind (wordBytes 1 (wordsIn true cs (take k ts))) (blocksBytes (i .bs)) old v (both (length old) w);
+        }
 
     pub segments-put : {r : ℕ} {ys : List ℕ} → PutBlocks ts cs ls (k + 1) r (part xs p) ys → PutSegments ts cs ls (p + r) old (back xs p ys)
     segments-put w e c h =
@@ -263,7 +292,7 @@ module _ (ts cs ls : List ℕ) {k : ℕ} (f : k ≡ 0 + before 9 (drop 0 ts)) wh
   whole-is n c h =
       byBool (ltb k (length ts))
       (λ y. let l = ltb-true k (length ts) y in
-        (omega arith, go (drop (k + 1) ts) (rw (cut-at semi cs ts f l) at h)))
+      (omega arith, go (drop (k + 1) ts) (rw (cut-at semi cs ts f l) at h)))
       (λ y. ok≢bad (rw (cut-none semi cs ts f (ltb-false k (length ts) y)) at h))
     where
       go : (us : List ℕ) → readCut (basesIn ls) n (cut (tokensIn cs (take k ts)) (placeIn (getD ts k 0)) (tokensIn cs us)) ≡ ok c

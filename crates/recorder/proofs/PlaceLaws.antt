@@ -62,13 +62,16 @@ pub named-is : (ts cs : List ℕ) (b : Base) (e : ℕ) (x : Placed) {k : ℕ} �
 named-is ts cs b e x {k} f h =
     byBool (ltb k (length ts))
     (λ y.
-      let l = ltb-true k (length ts) y in
-      let us = drop (k + 1) ts in
-      bind-ok (pieces 10 isIdentifier isPiece 3 true (tokensIn cs (take k ts)) (placeIn (getD ts k 0))) _ x (rw (cut-at equals cs ts f l) at h)
-      (λ ws a h1. map-ok (λ v. placed (first (tokensIn cs us) e) (place b ws v)) (readValue b (tokensIn cs us) e) x h1
-      (λ v c r. record {
-        inside = l; v = v; value = c;
-        bytes = rw (← r, bytes-append (map (λ w. field 4 w) ws) (many elementFields v), pieces-words cs (take k ts) true 10 isIdentifier isPiece 3 (placeIn (getD ts k 0)) ws a) })))
+    let l = ltb-true k (length ts) y in
+    let us = drop (k + 1) ts in
+    bind-ok (pieces 10 isIdentifier isPiece 3 true (tokensIn cs (take k ts)) (placeIn (getD ts k 0))) _ x (rw (cut-at equals cs ts f l) at h)
+    (λ ws a h1. map-ok (λ v. placed (first (tokensIn cs us) e) (place b ws v)) (readValue b (tokensIn cs us) e) x h1
+    (λ v c r. record {
+      inside = l;
+      v = v;
+      value = c;
+      bytes = rw (← r, bytes-append (map (λ w. field 4 w) ws) (many elementFields v), pieces-words cs (take k ts) true 10 isIdentifier isPiece 3 (placeIn (getD ts k 0)) ws a);
+    })))
     (λ y. ok≢bad (rw (cut-none equals cs ts f (ltb-false k (length ts) y)) at h))
 
 module _ (ts cs : List ℕ) (l k : ℕ) (f : k ≡ 0 + before 8 (drop 0 ts)) where
@@ -93,7 +96,8 @@ module _ (ts cs : List ℕ) (l k : ℕ) (f : k ≡ 0 + before 8 (drop 0 ts)) whe
       let i = is (length old) w in
       record {
         value = record { base = w .base; own = w .own; end = w .end; es = i .v; is = i .value };
-        room = room-behind (wordBytes 4 (wordsIn true cs (take k ts))) (valueBytes (i .v)) old v (both (length old) w) }
+        room = room-behind (wordBytes 4 (wordsIn true cs (take k ts))) (valueBytes (i .v)) old v (both (length old) w);
+      }
 
   pub name-put : (old : List ℕ) {xs ys : List ℕ} {p r : ℕ} → Wrote (wordBytes 4 (wordsIn true cs (take k ts))) p old xs
       → PutValue (drop (k + 1) ts) cs l r (part xs p) ys → PutName ts cs l (p + r) old (back xs p ys)
@@ -151,9 +155,13 @@ module _ (ts cs ls : List ℕ) (k : Bool) (n l : ℕ) (g : l ≡ letter (baseIn 
     -- named
     pub named-fits : k ≡ true → PlaceFits ts cs ls k n (length old) → NameFits ts cs l (length (part xs p))
     named-fits y w = record {
-      base = baseIn ls n; own = g; end = w .end; x = w .x;
+      base = baseIn ls n;
+      own = g;
+      end = w .end;
+      x = w .x;
       is = of-kind true (basesIn ls) n (tokensIn cs ts) (w .end) (w .x) (rw y at (w .is));
-      fits = behind w }
+      fits = behind w;
+    }
 
     pub named-put : {ys : List ℕ} {r : ℕ} → k ≡ true → PutName ts cs l r (part xs p) ys → PutPlace ts cs ls k n (p + r) old (back xs p ys)
     named-put y w e x h =
@@ -168,7 +176,8 @@ module _ (ts cs ls : List ℕ) (k : Bool) (n l : ℕ) (g : l ≡ letter (baseIn 
         let i = by-position y z (w .end) (w .x) (w .is) in
         record {
           value = record { base = baseIn ls n; own = g; end = w .end; es = i .v; is = i .value };
-          room = omega (arith, behind w, ap length (i .bytes)) }
+          room = omega (arith, behind w, ap length (i .bytes));
+        }
 
     pub position-put : {ys : List ℕ} {r : ℕ} → k ≡ false → 0 < length ts → PutValue ts cs l r (part xs p) ys → PutPlace ts cs ls k n (p + r) old (back xs p ys)
     position-put y z w e x h =

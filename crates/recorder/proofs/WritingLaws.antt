@@ -28,7 +28,8 @@ module _ {whole old : List ℕ} {k : ℕ} {o : List ℕ} where
     done = w .done ++ e;
     total = w .total ∙ sym (append-assoc (w .done) e rest);
     is = back-over (w .done) e old (w .is) (w .size) (p .1);
-    size = length-append (w .done) e ∙ omega (arith, w .size, p .0) }
+    size = length-append (w .done) e ∙ omega (arith, w .size, p .0);
+  }
 
   pub writing-all : Writing whole [] old k o → Wrote whole k old o
   writing-all w =

@@ -20,8 +20,11 @@ ghost use Rattle.recorder.specs.Recorder.{wordBytes, NameFits, PutName, 
 
 // The tags of the fields.
 const CODE: u8 = 1;
+
 const BLOCK: u8 = 2;
+
 const PLACE: u8 = 3;
+
 const NAME: u8 = 4;
 
 // What was written: the number of bytes, and the number of places so far.
@@ -76,7 +79,14 @@ fn put_name(out: &mut [u8], toks: &[u64], contents: &[u8], base: u8) -> usize
 }
 
 // The n-th place of the command, named or not.
-fn put_place(out: &mut [u8], toks: &[u64], contents: &[u8], bases: &[u8], named: bool, n: usize) -> usize
+fn put_place(
+    out: &mut [u8],
+    toks: &[u64],
+    contents: &[u8],
+    bases: &[u8],
+    named: bool,
+    n: usize,
+) -> usize
     requires { ⌜ PlaceFits (now toks) (now contents) (now bases) named n (length (now out)) ⌝ }
     ensures { λ r. ⌜ PutPlace (now (toks .entry)) (now (contents .entry)) (now (bases .entry)) named n r (now (out .entry)) (now (out .exit)) ⌝ }
 {
@@ -92,7 +102,14 @@ fn put_place(out: &mut [u8], toks: &[u64], contents: &[u8], bases: &[u8], named:
 }
 
 // The places of a block, the first of them the n-th of the command.
-fn put_places(out: &mut [u8], toks: &[u64], contents: &[u8], bases: &[u8], named: bool, first: usize) -> Put
+fn put_places(
+    out: &mut [u8],
+    toks: &[u64],
+    contents: &[u8],
+    bases: &[u8],
+    named: bool,
+    first: usize,
+) -> Put
     requires { ⌜ PlacesFit (now toks) (now contents) (now bases) named first (length (now out)) ⌝ }
     ensures { λ r. ⌜ PutPlaces (now (toks .entry)) (now (contents .entry)) (now (bases .entry)) named first (r .bytes) (r .places) (now (out .entry)) (now (out .exit)) ⌝ }
 {
@@ -105,7 +122,10 @@ fn put_places(out: &mut [u8], toks: &[u64], contents: &[u8], bases: &[u8], named
         n += 1;
         i = j + 1;
     }
-    Put { bytes: k, places: n }
+    Put {
+        bytes: k,
+        places: n,
+    }
 }
 
 // The letter of a block's kind.
@@ -126,7 +146,10 @@ fn put_block(out: &mut [u8], toks: &[u64], contents: &[u8], bases: &[u8], first:
     let named = blocks::is_named(toks);
     let p = put_byte(out, BLOCK, kind_letter(named));
     let r = put_places(&mut out[p..], toks, contents, bases, named, first);
-    Put { bytes: p + r.bytes, places: r.places }
+    Put {
+        bytes: p + r.bytes,
+        places: r.places,
+    }
 }
 
 // The blocks from the one that begins at index `from` on.

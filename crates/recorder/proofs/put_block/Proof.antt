@@ -55,7 +55,7 @@ put-places-requires c κs = let a = c .before .before .before .before .before .b
 
 -- the block is written
 put : tie.Need-returns
-put c = let a = c .before .before .before .before .before .before .before .before .before .before .before .before .before .before .before .args in let ts = now (a .toks) in let cs = now (a .contents) in let ls = now (a .bases) in let old = now (a .out) in  block-put ts cs ls (a .first) (c .before .before .before .before .before .before .before .before .before .before .is-named .ensures) old (wrote (c .before .before .before .before .before .before .before)) (c .before .before .before .put-places .ensures)
+put c = let a = c .before .before .before .before .before .before .before .before .before .before .before .before .before .before .before .args in let ts = now (a .toks) in let cs = now (a .contents) in let ls = now (a .bases) in let old = now (a .out) in block-put ts cs ls (a .first) (c .before .before .before .before .before .before .before .before .before .before .is-named .ensures) old (wrote (c .before .before .before .before .before .before .before)) (c .before .before .before .put-places .ensures)
 
 -- src/lib.rt:135:18
 add-t13 : tie.Need-add-t13

@@ -25,11 +25,11 @@ find-requires c κs = search needs
 
 -- the `=` is there
 inside : (c : tie.After-find) → c .find .result < length (now (c .before .before .before .before .args .toks))
-inside c = let a = c .before .before .before .before .args in let ts = now (a .toks) in let cs = now (a .contents) in let l = a .base in let old = now (a .out) in  name-inside ts cs l (c .find .result) (c .find .ensures) (length old) (c .before .before .before .before .pre)
+inside c = let a = c .before .before .before .before .args in let ts = now (a .toks) in let cs = now (a .contents) in let l = a .base in let old = now (a .out) in name-inside ts cs l (c .find .result) (c .find .ensures) (length old) (c .before .before .before .before .pre)
 
 -- the name is written
-wrote : (c : tie.After-put-pieces) → let a = c .before .before .before .before .before .before .before .args in let ts = now (a .toks) in let cs = now (a .contents) in let l = a .base in let old = now (a .out) in  Wrote (wordBytes 4 (wordsIn true cs (take (c .before .before .before .find .result) ts))) (c .put-pieces .result) old (c .put-pieces .last .0)
-wrote c = let a = c .before .before .before .before .before .before .before .args in let ts = now (a .toks) in let cs = now (a .contents) in let l = a .base in let old = now (a .out) in  pieces-wrote 4 (wordsIn true cs (take (c .before .before .before .find .result) ts)) old (c .put-pieces .ensures)
+wrote : (c : tie.After-put-pieces) → let a = c .before .before .before .before .before .before .before .args in let ts = now (a .toks) in let cs = now (a .contents) in let l = a .base in let old = now (a .out) in Wrote (wordBytes 4 (wordsIn true cs (take (c .before .before .before .find .result) ts))) (c .put-pieces .result) old (c .put-pieces .last .0)
+wrote c = let a = c .before .before .before .before .before .before .before .args in let ts = now (a .toks) in let cs = now (a .contents) in let l = a .base in let old = now (a .out) in pieces-wrote 4 (wordsIn true cs (take (c .before .before .before .find .result) ts)) old (c .put-pieces .ensures)
 
 -- src/lib.rt:80:35
 slice-aggregate-put-pieces : tie.Need-slice-aggregate-put-pieces
@@ -77,7 +77,7 @@ put-value-requires c κs = let a = c .before .before .before .before .before .be
 
 -- name and value are written
 put : tie.Need-returns
-put c = let a = c .before .before .before .before .before .before .before .before .before .before .before .before .before .before .args in let ts = now (a .toks) in let cs = now (a .contents) in let l = a .base in let old = now (a .out) in  name-put ts cs l (c .before .before .before .before .before .before .before .before .before .before .find .result) (c .before .before .before .before .before .before .before .before .before .before .find .ensures) old (wrote (c .before .before .before .before .before .before .before)) (rw (part-from ts (c .before .before .before .before .before .before .before .before .before .before .find .result + 1)) at (c .before .before .put-value .ensures))
+put c = let a = c .before .before .before .before .before .before .before .before .before .before .before .before .before .before .args in let ts = now (a .toks) in let cs = now (a .contents) in let l = a .base in let old = now (a .out) in name-put ts cs l (c .before .before .before .before .before .before .before .before .before .before .find .result) (c .before .before .before .before .before .before .before .before .before .before .find .ensures) old (wrote (c .before .before .before .before .before .before .before)) (rw (part-from ts (c .before .before .before .before .before .before .before .before .before .before .find .result + 1)) at (c .before .before .put-value .ensures))
 
 -- src/lib.rt:81:5
 add-result : tie.Need-add-result

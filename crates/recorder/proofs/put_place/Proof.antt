@@ -42,7 +42,7 @@ put-name-requires c κs = let a = c .before .before .before .before .before .bef
 
 -- a named place is written
 by-name : tie.Need-returns
-by-name c = let a = c .before .before .before .before .before .before .before .before .before .before .before .before .before .before .args in let ts = now (a .toks) in let cs = now (a .contents) in let ls = now (a .bases) in let old = now (a .out) in  named-put ts cs ls (a .named) (a .n) (c .before .before .before .before .before .before .before .before .before .base .result) (c .before .before .before .before .before .before .before .before .before .base .ensures) old (c .before .before .before .before .before .before .before .put-byte .ensures) (c .before .before .before .before .if1 .taken) (c .before .before .put-name .ensures)
+by-name c = let a = c .before .before .before .before .before .before .before .before .before .before .before .before .before .before .args in let ts = now (a .toks) in let cs = now (a .contents) in let ls = now (a .bases) in let old = now (a .out) in named-put ts cs ls (a .named) (a .n) (c .before .before .before .before .before .before .before .before .before .base .result) (c .before .before .before .before .before .before .before .before .before .base .ensures) old (c .before .before .before .before .before .before .before .put-byte .ensures) (c .before .before .before .before .if1 .taken) (c .before .before .put-name .ensures)
 
 -- src/lib.rt:92:16
 add-result : tie.Need-add-result
@@ -74,7 +74,7 @@ put-value-requires c κs = let a = c .before .before .before .before .before .be
 
 -- a place by position is written
 by-position : tie.Need-returns-2
-by-position c = let a = c .before .before .before .before .before .before .before .before .before .before .before .before .before .before .before .args in let ts = now (a .toks) in let cs = now (a .contents) in let ls = now (a .bases) in let old = now (a .out) in  position-put ts cs ls (a .named) (a .n) (c .before .before .before .before .before .before .before .before .before .before .base .result) (c .before .before .before .before .before .before .before .before .before .before .base .ensures) old (c .before .before .before .before .before .before .before .before .put-byte .ensures) (c .before .before .before .before .before .if1 .left) (c .before .before .before .before .if2 .taken) (c .before .before .put-value .ensures)
+by-position c = let a = c .before .before .before .before .before .before .before .before .before .before .before .before .before .before .before .args in let ts = now (a .toks) in let cs = now (a .contents) in let ls = now (a .bases) in let old = now (a .out) in position-put ts cs ls (a .named) (a .n) (c .before .before .before .before .before .before .before .before .before .before .base .result) (c .before .before .before .before .before .before .before .before .before .before .base .ensures) old (c .before .before .before .before .before .before .before .before .put-byte .ensures) (c .before .before .before .before .before .if1 .left) (c .before .before .before .before .if2 .taken) (c .before .before .put-value .ensures)
 
 -- src/lib.rt:95:16
 add-result-2 : tie.Need-add-result-2

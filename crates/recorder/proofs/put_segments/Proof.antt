@@ -28,8 +28,8 @@ inside : (c : tie.After-find) → c .find .result ≤ length (now (c .before .be
 inside c = found-inside (now (c .before .before .before .before .before .args .toks)) 0 7 (c .find .ensures) (omega arith)
 
 -- the code is written
-wrote : (c : tie.After-put-pieces) → let a = c .before .before .before .before .before .before .before .before .args in let ts = now (a .toks) in let cs = now (a .contents) in let ls = now (a .bases) in let old = now (a .out) in  Wrote (wordBytes 1 (wordsIn true cs (take (c .before .before .before .find .result) ts))) (c .put-pieces .result) old (c .put-pieces .last .0)
-wrote c = let a = c .before .before .before .before .before .before .before .before .args in let ts = now (a .toks) in let cs = now (a .contents) in let ls = now (a .bases) in let old = now (a .out) in  pieces-wrote 1 (wordsIn true cs (take (c .before .before .before .find .result) ts)) old (c .put-pieces .ensures)
+wrote : (c : tie.After-put-pieces) → let a = c .before .before .before .before .before .before .before .before .args in let ts = now (a .toks) in let cs = now (a .contents) in let ls = now (a .bases) in let old = now (a .out) in Wrote (wordBytes 1 (wordsIn true cs (take (c .before .before .before .find .result) ts))) (c .put-pieces .result) old (c .put-pieces .last .0)
+wrote c = let a = c .before .before .before .before .before .before .before .before .args in let ts = now (a .toks) in let cs = now (a .contents) in let ls = now (a .bases) in let old = now (a .out) in pieces-wrote 1 (wordsIn true cs (take (c .before .before .before .find .result) ts)) old (c .put-pieces .ensures)
 
 -- src/lib.rt:162:35
 slice-aggregate-put-pieces : tie.Need-slice-aggregate-put-pieces
@@ -61,7 +61,7 @@ put-blocks-requires c κs = let a = c .before .before .before .before .before .b
 
 -- code and blocks are written
 put : tie.Need-returns
-put c = let a = c .before .before .before .before .before .before .before .before .before .before .before .before .before .before .args in let ts = now (a .toks) in let cs = now (a .contents) in let ls = now (a .bases) in let old = now (a .out) in  segments-put ts cs ls (c .before .before .before .before .before .before .before .before .before .find .ensures) old (wrote (c .before .before .before .before .before .before)) (c .before .before .put-blocks .ensures)
+put c = let a = c .before .before .before .before .before .before .before .before .before .before .before .before .before .before .args in let ts = now (a .toks) in let cs = now (a .contents) in let ls = now (a .bases) in let old = now (a .out) in segments-put ts cs ls (c .before .before .before .before .before .before .before .before .before .find .ensures) old (wrote (c .before .before .before .before .before .before)) (c .before .before .put-blocks .ensures)
 
 -- src/lib.rt:163:5
 add-result : tie.Need-add-result
