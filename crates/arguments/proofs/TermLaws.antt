@@ -1,24 +1,22 @@
 -- The bytes of an element tell its terms: in a range's bytes upper end and increment stand at the front, the lower end at the back, and what stands
 -- between are the leading units.
-use mathlib.Core.Path.{_≡_, refl, sym, ap, ap₂, _∙_, subst}
+use mathlib.Core.Path.{_≡_, refl, sym, ap, _∙_}
 use mathlib.Core.Bool.{Bool, true, false, _&&_}
 use mathlib.Core.List.{List, [], _∷_, _++_, map, map-append, append-assoc, append-nil}
-use Prim.Native.Nat.{ℕ, suc, _+_, _-_, _*_, _/_, _%_, _^_, _≤_, _<_}
+use Prim.Native.Nat.{ℕ, _+_, _-_, _*_, _/_, _≤_}
 use native.Mathlib.Nat.{le-refl, mul-le-mul-right, div-mul-le-self}
 use native.Mathlib.Omega.{arith}
-use borrow.Author.Tests.{le-leb, leb-true, eqb-true}
+use borrow.Author.Tests.{le-leb, leb-true}
 use lib.Dec.{leb, eqb}
 use lib.ListN.{length, getD, take, drop, length-append, length-take, length-drop}
 use lib.Seq.{getD-append-add, take-at}
-use Rattle.laws.specs.Cases.{pick, byBool, and-l, and-r, and-false}
-use Rattle.laws.specs.Lists.{all}
-use Rattle.rules.specs.Units.{Base, Radix, radixLetter, plain, Unit, num, allowed}
+use Rattle.laws.specs.Cases.{byBool, and-l, and-r, and-false}
+use Rattle.rules.specs.Units.{Base, Radix, radixLetter, Unit, num}
 use Rattle.rules.specs.Commands.{Element, single, range, terms}
 use Rattle.rules.specs.Records.{Field, field, fourBytes, fieldBytes, bytesOf, unitField, elementFields, num4}
-use Rattle.rules.specs.WellFormed.{wfUnit, wfElement, wfRange}
+use Rattle.rules.specs.WellFormed.{wfUnit, wfElement}
 use Rattle.rules.specs.Orders.{termAt}
 use Rattle.rules.proofs.DecodeEncode.{four, value-small}
-use Rattle.rules.proofs.Progression.{term-le}
 use Rattle.rules.proofs.ValueBack.{ok-last, ok-range}
 use Rattle.walk.specs.Fronts.{tagOf}
 use Rattle.fields.specs.Units.{numeralBytes}

@@ -9,14 +9,41 @@ ghost use Rattle.rules.specs.Records.{num4};
 ghost use Rattle.arguments.specs.Runs.{Whole, fieldSize, RunsTo, ElementTo};
 ghost use Rattle.arguments.specs.Terms.{isRange, moreTerms, termValue, termBytes, argumentBytes, IsArgument};
 
-// The tags of a single element and of a range element, and of the first and the last kind of unit.
+// The tag of a single element.
 pub const SINGLE: u8 = 5;
 
+// The tag of a range element.
 pub const RANGE: u8 = 6;
 
+// The tag of the first kind of unit.
 pub const NUMERAL: u8 = 7;
 
+// The tag of the last kind of unit.
 pub const STRING: u8 = 11;
+
+// A range's own field: tag, length, upper end, increment.
+const RANGE_FIELD: usize = 11;
+
+// A numeral's field: tag, length, letter, fraction digits, value.
+const NUMERAL_FIELD: usize = 9;
+
+// A range without leading units: its own field and its lower end's.
+const SHORTEST_RANGE: usize = 20;
+
+// Upper end and increment.
+const ENDS: usize = 8;
+
+// One number.
+const NUMBER: usize = 4;
+
+// Where in a range's field the upper end stands.
+const UPPER: usize = 3;
+
+// Where in a range's field the increment stands.
+const INCREMENT: usize = 7;
+
+// Where in a numeral's field the letter stands.
+const LETTER: usize = 3;
 
 // Where in a value an argument is: the element that names it, and which of the element's terms it is, from 0.
 pub struct Argument {
@@ -80,7 +107,7 @@ pub fn number_at(bytes: &[u8], at: usize) -> u32
 pub fn is_range(element: &[u8]) -> bool
     ensures { λ r. ⌜ r ≡ isRange (now (element .entry)) ⌝ }
 {
-    if element.len() < 20 {
+    if element.len() < SHORTEST_RANGE {
         return false;
     }
     element[0] == RANGE
@@ -104,9 +131,9 @@ pub fn more_terms(element: &[u8]) -> u32
     ensures { λ r. ⌜ r ≡ moreTerms (now (element .entry)) ⌝ }
 {
     if is_range(element) {
-        let lower = number_at(element, element.len() - 4);
-        let upper = number_at(element, 3);
-        return steps(lower, upper, number_at(element, 7));
+        let lower = number_at(element, element.len() - NUMBER);
+        let upper = number_at(element, UPPER);
+        return steps(lower, upper, number_at(element, INCREMENT));
     }
     0
 }
@@ -138,7 +165,7 @@ pub fn argument_len(element: &[u8]) -> usize
     ensures { λ r. ⌜ ((n : ℕ) → r ≡ length (argumentBytes (now (element .entry)) n)) ⌝ }
 {
     if is_range(element) {
-        return element.len() - 8;
+        return element.len() - ENDS;
     }
     element.len()
 }
@@ -148,8 +175,8 @@ pub fn term_value(range: &[u8], term: u32) -> u32
     requires { ⌜ (isRange (now range) ≡ true) × (term ≤ moreTerms (now range)) ⌝ }
     ensures { λ r. ⌜ r ≡ termValue (now (range .entry)) term ⌝ }
 {
-    let lower = number_at(range, range.len() - 4);
-    lower + term * number_at(range, 7)
+    let lower = number_at(range, range.len() - NUMBER);
+    lower + term * number_at(range, INCREMENT)
 }
 
 // A range's term as a single element: the leading units as they are, the last unit made new.
@@ -158,14 +185,14 @@ pub fn put_term(out: &mut [u8], range: &[u8], term: u32) -> usize
     ensures { λ r. ⌜ (r ≡ length (termBytes (now (range .entry)) term))
         × (now (out .exit) ≡ over (termBytes (now (range .entry)) term) (now (out .entry))) ⌝ }
 {
-    let last = range.len() - 9;
-    let letter = range[last + 3];
+    let last = range.len() - NUMERAL_FIELD;
+    let letter = range[last + LETTER];
     let value = term_value(range, term);
     let first = fields::put_field(out, SINGLE, &range[..0]);
-    fields::put_bytes(&mut out[first..], &range[11..last]);
-    let unit = first + (last - 11);
+    fields::put_bytes(&mut out[first..], &range[RANGE_FIELD..last]);
+    let unit = first + (last - RANGE_FIELD);
     fields::put_numeral(&mut out[unit..], letter, 0, value);
-    unit + 9
+    unit + NUMERAL_FIELD
 }
 
 // An argument of the element as a single element.

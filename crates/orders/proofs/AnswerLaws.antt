@@ -1,6 +1,6 @@
 -- The answers of order k: each refusal where its test fails, in the rules' order, and else the order's record.
-use mathlib.Core.Path.{_≡_, refl, sym, ap, _∙_, subst}
-use mathlib.Core.Bool.{Bool, true, false}
+use mathlib.Core.Path.{_≡_, ap, _∙_, subst}
+use mathlib.Core.Bool.{true, false}
 use mathlib.Core.List.{List, [], _∷_, _++_, map}
 use Prim.Native.Nat.{ℕ, zero, suc, _≤_, _<_}
 use native.Mathlib.Nat.{not-suc-le-zero, le-of-suc-le-suc}
@@ -10,7 +10,7 @@ use lib.Dec.{leb, ltb}
 use lib.ListN.{length, getD, take, drop, length-take, length-map, length-append}
 use lib.Seq.{take-at, length-take-le}
 use Rattle.laws.specs.Over.{over}
-use Rattle.rules.specs.Refusals.{Res, ok, bad}
+use Rattle.rules.specs.Refusals.{ok, bad}
 use Rattle.rules.specs.Answers.{fitted, ordering, Promise, Orders}
 use Rattle.rules.specs.Commands.{Place, Command, placeCount}
 use Rattle.rules.specs.Orders.{count, orderAt}

@@ -1,9 +1,9 @@
 -- A record is its parts, and they are reduced one stretch after the other; with order k's positions they become the parts of order k, since both go
 -- from the last place back.
 use mathlib.Core.Path.{_≡_, refl, sym, ap, ap₂, _∙_, subst}
-use mathlib.Core.Bool.{Bool, true, false, cond, _&&_, not}
-use mathlib.Core.List.{List, [], _∷_, _++_, map, map-append, append-assoc, append-nil}
-use Prim.Native.Nat.{ℕ, suc, _+_, _-_, _%_, _≤_, _<_}
+use mathlib.Core.Bool.{Bool, true, cond, not}
+use mathlib.Core.List.{List, [], _∷_, _++_, map, map-append, append-assoc}
+use Prim.Native.Nat.{ℕ, _+_, _-_, _≤_, _<_}
 use native.Mathlib.Nat.{mod-lt}
 use native.Mathlib.Omega.{arith}
 use borrow.Author.Tests.{leb-true}
@@ -19,7 +19,7 @@ use Rattle.rules.specs.Refusals.{ok}
 use Rattle.rules.specs.Commands.{Element, Place, place, Block, block, Command, command, allPlaces, placeCount, valueCount}
 use Rattle.rules.specs.Records.{Field, field, fieldsOf, bytesOf, many, placeFields, blockFields, encode}
 use Rattle.rules.specs.WellFormed.{wellFormed, wfBlock, wfPlace, wfValue, recordOf}
-use Rattle.rules.specs.Orders.{valueAt, placeAt, back, blockAt, orderAt}
+use Rattle.rules.specs.Orders.{placeAt, back, blockAt, orderAt}
 use Rattle.rules.proofs.CommandBack.{c-blocks}
 use Rattle.rules.proofs.DecodeEncode.{place-value}
 use Rattle.rules.proofs.DirectIsList.{place-pos}
@@ -29,7 +29,7 @@ use Rattle.walk.specs.Fronts.{tagOf}
 use Rattle.arguments.specs.Runs.{Whole, tagIn}
 use Rattle.arguments.proofs.TermLaws.{bytes-append}
 use Rattle.orders.specs.Reduced.{positionAt, positionsOf, Part, kept, placed, partFields, partsBytes, blockParts, partsOf, reducedPlace, reduce, reduced, Below, placesIn, Fit}
-use Rattle.orders.specs.Stretches.{Within, stretchBytes, Keeps, IsStretch}
+use Rattle.orders.specs.Stretches.{stretchBytes, Keeps, IsStretch}
 use Rattle.orders.specs.declared.Stretch.{Stretch}
 use Rattle.orders.proofs.PositionLaws.{behind, leftOf, behind-long}
 use Rattle.orders.proofs.StretchLaws.{stretch-short}

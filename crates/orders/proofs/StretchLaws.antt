@@ -1,29 +1,28 @@
 -- What the walk over a stretch finds is the place that stands there: its head ends where the value begins, and the value's other elements are passed over.
-use mathlib.Core.Path.{_≡_, refl, sym, ap, ap₂, _∙_, subst}
-use mathlib.Core.Bool.{Bool, true, false, _&&_, false≢true}
+use mathlib.Core.Path.{_≡_, refl, sym, ap, ap₂, _∙_}
+use mathlib.Core.Bool.{true, false}
 use mathlib.Core.List.{List, [], _∷_, _++_, map, append-assoc, append-nil}
-use Prim.Native.Nat.{ℕ, suc, _+_, _-_, _≤_, _<_}
+use Prim.Native.Nat.{ℕ, _+_, _-_, _≤_, _<_}
 use native.Mathlib.Omega.{arith}
 use borrow.Author.Tests.{lt-leb, le-leb, leb-true}
-use lib.Dec.{leb, ltb}
+use lib.Dec.{leb}
 use lib.ListN.{length, take, drop, length-append, length-take, length-drop}
 use lib.Seq.{take-at}
-use Rattle.laws.specs.Cases.{byBool, and-l, and-r}
+use Rattle.laws.specs.Cases.{and-l, and-r}
 use Rattle.laws.specs.Lists.{all, all-append}
 use Rattle.rules.specs.Characters.{between}
 use Rattle.rules.specs.Units.{Base, letter, num}
-use Rattle.rules.specs.Commands.{Element, single, range, leading, terms, sum, valueCount, Place, place}
+use Rattle.rules.specs.Commands.{Element, single, range, leading, valueCount, place}
 use Rattle.rules.specs.Records.{Field, field, fieldBytes, bytesOf, many, unitField, elementFields, placeFields}
-use Rattle.rules.specs.WellFormed.{wfValue, wfElement}
-use Rattle.rules.specs.Orders.{argumentAt, valueAt}
+use Rattle.rules.specs.WellFormed.{wfValue}
+use Rattle.rules.specs.Orders.{argumentAt}
 use Rattle.rules.proofs.ValueBack.{v-all}
 use Rattle.walk.specs.Fronts.{tagOf}
 use Rattle.arguments.specs.Runs.{fieldSize, tagIn, RunsTo}
-use Rattle.arguments.specs.Terms.{isRange, moreTerms, argumentBytes, bytesIn, IsNth, IsArgument}
+use Rattle.arguments.specs.Terms.{isRange, argumentBytes, bytesIn, IsNth, IsArgument}
 use Rattle.arguments.specs.declared.Argument.{Argument}
 use Rattle.arguments.proofs.RunLaws.{drop-behind, after-field, unit-tags}
 use Rattle.arguments.proofs.TermLaws.{bytes-append, argument-short}
-use Rattle.orders.specs.Reduced.{reducedPlace}
 use Rattle.orders.specs.Stretches.{headFields, HeadTo, Within, stretchBytes, Keeps, IsStretch}
 use Rattle.orders.specs.declared.Stretch.{Stretch}
 

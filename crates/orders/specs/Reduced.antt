@@ -1,7 +1,7 @@
 -- A record with each value reduced to the argument at its place's position; and the positions of order k. With these positions it is the record of
 -- document 01's order k.
 use mathlib.Core.Path.{_≡_}
-use mathlib.Core.Bool.{Bool, true, false, cond}
+use mathlib.Core.Bool.{cond}
 use mathlib.Core.List.{List, [], _∷_, _++_, map}
 use Prim.Native.Nat.{ℕ, _/_, _%_, _<_}
 use Rattle.laws.specs.Cases.{Always}

@@ -9,18 +9,22 @@ ghost use Rattle.arguments.specs.Runs.{Whole};
 ghost use Rattle.orders.specs.Reduced.{positionsOf, Fit, reduced};
 ghost use Rattle.orders.specs.Stretches.{HeadTo, Within, stretchBytes, IsStretch};
 
-// The tags of a code piece, a block and a name piece.
+// The tag of a code piece.
 const CODE: u8 = 1;
 
+// The tag of a block.
 const BLOCK: u8 = 2;
 
+// The tag of a name piece.
 const NAME: u8 = 4;
 
-// The refusals: a buffer that is too short, a record that is not well formed, a number that is not below the count.
+// The refusal of a buffer that is too short.
 const NO_ROOM: u8 = 17;
 
+// The refusal of a record that is not well formed.
 const NOT_WELL_FORMED: u8 = 18;
 
+// The refusal of a number that is not below the count.
 const NO_SUCH_ORDER: u8 = 19;
 
 // A stretch of the record up to the end of a place's value, and what an order keeps of it: all before the value, and of the value one argument, a

@@ -1,42 +1,32 @@
+-- `after` meets its contract: the length stands behind the tag, and since the record is whole the field ends inside.
 use borrow.Author.Needs.{needs}
 use Rattle.arguments.proofs.RunLaws.{after-none, after-some, after-on, whole-after}
 use native.Mathlib.Omega.{arith}
 use denote.Ref.{now}
 use Rattle.arguments.proofs.after.Statement.{statement}
 use Rattle.arguments.proofs.after.Tie as tie
-use Rattle.arguments.proofs.after.Reads as reads
-use Rattle.arguments.proofs.after.Lts as lts
-use Rattle.fields.proofs.field_end.Reads as field-end-reads
 
--- src/lib.rt:31:41
 add-field-end : tie.Need-add-field-end
 add-field-end c = search needs
 
--- src/lib.rt:31:37
 shared-slice-read-field-end : tie.Need-shared-slice-read-field-end
 shared-slice-read-field-end c = omega (arith, whole-after (c .before .before .before .pre) .inside, after-on (now (c .before .before .before .args .rec)) (c .before .before .before .args .at) (c .before .if1 .taken))
 
--- src/lib.rt:31:54
 add-field-end-2 : tie.Need-add-field-end-2
 add-field-end-2 c = search needs
 
--- src/lib.rt:31:50
 shared-slice-read-field-end-2 : tie.Need-shared-slice-read-field-end-2
 shared-slice-read-field-end-2 c = omega (arith, whole-after (c .before .before .before .before .pre) .inside, after-on (now (c .before .before .before .before .args .rec)) (c .before .before .before .before .args .at) (c .before .before .if1 .taken))
 
--- src/lib.rt:31:21
 field-end-requires : tie.Need-field-end-requires
 field-end-requires c κs = search needs
 
--- src/lib.rt:31:16
 add-result : tie.Need-add-result
 add-result c = omega (arith, after-some (now (c .before .before .before .before .before .args .rec)) (c .before .before .before .before .before .args .at) (c .field-end .ensures) (c .before .before .before .if1 .taken), whole-after (c .before .before .before .before .before .pre) .inside)
 
--- src/lib.rt:31:9
 returns : tie.Need-returns
 returns c = after-some (now (c .before .before .before .before .before .args .rec)) (c .before .before .before .before .before .args .at) (c .field-end .ensures) (c .before .before .before .if1 .taken)
 
--- src/lib.rt:26:1
 returns-2 : tie.Need-returns-2
 returns-2 c = after-none (now (c .before .before .args .rec)) (c .before .before .args .at) (c .if1 .left)
 

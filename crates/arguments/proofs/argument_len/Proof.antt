@@ -1,29 +1,22 @@
+-- `argument_len` meets its contract: a range's term is 8 bytes shorter than the range, and any other element is its own argument.
 use borrow.Author.Needs.{needs}
 use Rattle.arguments.proofs.TermLaws.{range-long, argument-range, argument-whole}
-use Rattle.arguments.specs.Terms.{argumentBytes}
-use mathlib.Core.Path.{_≡_, refl, sym, ap, _∙_}
+use mathlib.Core.Path.{sym, ap, _∙_}
 use denote.Ref.{now}
 use lib.ListN.{length}
 use native.Mathlib.Omega.{arith}
 use Rattle.arguments.proofs.argument_len.Statement.{statement}
 use Rattle.arguments.proofs.argument_len.Tie as tie
-use Rattle.arguments.proofs.argument_len.Reads as reads
-use Rattle.arguments.proofs.argument_len.Lts as lts
-use Rattle.arguments.proofs.is_range.Reads as is-range-reads
 
--- src/lib.rt:142:8
 is-range-requires : tie.Need-is-range-requires
 is-range-requires c κs = search needs
 
--- src/lib.rt:143:16
 sub-result : tie.Need-sub-result
 sub-result c = omega (arith, range-long (now (c .before .before .before .args .element)) (sym (c .before .is-range .ensures) ∙ c .if1 .taken))
 
--- src/lib.rt:143:9
 returns : tie.Need-returns
 returns c = λ n. sym (argument-range (now (c .before .before .before .args .element)) n (sym (c .before .is-range .ensures) ∙ c .if1 .taken))
 
--- src/lib.rt:139:1
 returns-2 : tie.Need-returns-2
 returns-2 c = λ n. sym (ap length (argument-whole (now (c .before .before .before .args .element)) n (sym (c .before .is-range .ensures) ∙ c .if1 .left)))
 

@@ -1,17 +1,11 @@
-use borrow.Author.Needs.{needs}
-use lib.Dec.{leb}
-use native.Mathlib.Omega.{arith}
+-- `is_between` meets its contract: each of the two comparisons decides its half of the test.
 use borrow.Author.Tests.{le-leb, lt-leb}
 use Rattle.arguments.proofs.is_between.Statement.{statement}
 use Rattle.arguments.proofs.is_between.Tie as tie
-use Rattle.arguments.proofs.is_between.Reads as reads
-use Rattle.arguments.proofs.is_between.Lts as lts
 
--- src/lib.rt:42:1
 returns : tie.Need-returns
 returns c = rw (le-leb _ _ (c .if1 .taken))
 
--- src/lib.rt:42:1
 returns-2 : tie.Need-returns-2
 returns-2 c = rw (lt-leb _ _ (c .if1 .left))
 

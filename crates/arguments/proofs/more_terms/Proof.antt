@@ -1,47 +1,35 @@
+-- `more_terms` meets its contract: upper end and increment stand at the front of a range, the lower end at its back.
 use borrow.Author.Needs.{needs}
 use Rattle.arguments.proofs.TermLaws.{range-long}
 use Rattle.arguments.specs.Terms.{moreTerms}
-use mathlib.Core.Path.{_≡_, refl, sym, ap, _∙_}
+use mathlib.Core.Path.{sym, _∙_}
 use denote.Ref.{now}
 use native.Mathlib.Omega.{arith}
 use Rattle.arguments.proofs.more_terms.Statement.{statement}
 use Rattle.arguments.proofs.more_terms.Tie as tie
-use Rattle.arguments.proofs.more_terms.Reads as reads
-use Rattle.arguments.proofs.more_terms.Lts as lts
-use Rattle.arguments.proofs.is_range.Reads as is-range-reads
-use Rattle.arguments.proofs.number_at.Reads as number-at-reads
-use Rattle.arguments.proofs.steps.Reads as steps-reads
 
--- src/lib.rt:108:8
 is-range-requires : tie.Need-is-range-requires
 is-range-requires c κs = search needs
 
--- src/lib.rt:109:40
 sub-number-at : tie.Need-sub-number-at
 sub-number-at c = omega (arith, range-long (now (c .before .before .before .args .element)) (sym (c .before .is-range .ensures) ∙ c .if1 .taken))
 
--- src/lib.rt:109:13
 number-at-requires : tie.Need-number-at-requires
 number-at-requires c κs = omega (arith, range-long (now (c .before .before .before .args .element)) (sym (c .before .is-range .ensures) ∙ c .if1 .taken))
 
--- src/lib.rt:110:13
 number-at-requires-2 : tie.Need-number-at-requires-2
 number-at-requires-2 c κs = omega (arith, range-long (now (c .before .before .before .before .args .element)) (sym (c .before .before .is-range .ensures) ∙ c .before .if1 .taken))
 
--- src/lib.rt:111:36
 number-at-requires-3 : tie.Need-number-at-requires-3
 number-at-requires-3 c κs = omega (arith, range-long (now (c .before .before .before .before .before .args .element)) (sym (c .before .before .before .is-range .ensures) ∙ c .before .before .if1 .taken))
 
--- src/lib.rt:111:9
 steps-requires : tie.Need-steps-requires
 steps-requires c κs = search needs
 
--- src/lib.rt:111:9
 returns : tie.Need-returns
 unfolding moreTerms
 returns c = rw (← c .before .before .before .before .before .is-range .ensures, c .before .before .before .before .if1 .taken, c .steps .ensures, c .before .before .before .number-at .ensures, c .before .before .number-at2 .ensures, c .before .number-at3 .ensures)
 
--- src/lib.rt:105:1
 returns-2 : tie.Need-returns-2
 unfolding moreTerms
 returns-2 c = rw (← c .before .is-range .ensures, c .if1 .left)

@@ -1,19 +1,14 @@
+-- `nth_argument` meets its contract: the argument that is found from here is the one from the start, since each turn passes over a whole element by its terms.
 use borrow.Author.Needs.{needs}
 use Rattle.arguments.specs.Runs.{Whole}
 use Rattle.arguments.proofs.NthLaws.{nth-found, nth-later-on}
 use Rattle.arguments.specs.declared.Argument.{Argument}
 use Rattle.arguments.specs.Terms.{IsArgument}
-use lib.ListN.{length}
-use Prim.Native.Nat.{ℕ, _≤_}
-use mathlib.Core.Path.{_≡_, refl, sym, ap, _∙_}
+use Prim.Native.Nat.{_≤_}
 use native.Mathlib.Omega.{arith}
 use denote.Ref.{now}
 use Rattle.arguments.proofs.nth_argument.Statement.{statement}
 use Rattle.arguments.proofs.nth_argument.Tie as tie
-use Rattle.arguments.proofs.nth_argument.Reads as reads
-use Rattle.arguments.proofs.nth_argument.Lts as lts
-use Rattle.arguments.proofs.element_end.Reads as element-end-reads
-use Rattle.arguments.proofs.more_terms.Reads as more-terms-reads
 
 abbrev Inv-loop : tie.InvT-loop
 Inv-loop rec at position start₀ term₀ start term = Whole rec start × (at ≤ start) × ((a : Argument) → IsArgument rec start term a → IsArgument rec at position a)
@@ -21,47 +16,36 @@ Inv-loop rec at position start₀ term₀ start term = Whole rec start × (at �
 abbrev μ-loop : tie.MeasureT-loop
 μ-loop rec at position start₀ term₀ start term = term
 
--- src/lib.rt:123:5
 loop-holds : tie.Need-loop-holds Inv-loop μ-loop
 loop-holds c = (c .before .pre, omega arith, λ a p. p)
 
--- src/lib.rt:124:13
 element-end-requires : tie.Need-element-end-requires Inv-loop μ-loop
 element-end-requires c κs = search needs
 
--- src/lib.rt:125:31
 sub-more-terms : tie.Need-sub-more-terms Inv-loop μ-loop
 sub-more-terms c = omega (arith, c .element-end .ensures .from)
 
--- src/lib.rt:125:31
 part-more-terms-start : tie.Need-part-more-terms-start Inv-loop μ-loop
 part-more-terms-start c = omega (arith, c .element-end .ensures .from)
 
--- src/lib.rt:125:31
 part-more-terms-end : tie.Need-part-more-terms-end Inv-loop μ-loop
 part-more-terms-end c = omega (arith, c .element-end .ensures .whole .inside)
 
--- src/lib.rt:125:13
 more-terms-requires : tie.Need-more-terms-requires Inv-loop μ-loop
 more-terms-requires c κs = search needs
 
--- src/lib.rt:127:13
 returns : tie.Need-returns Inv-loop μ-loop
 returns c = c .before .before .before .before .loop .inv .2 _ (nth-found (now (c .before .before .before .before .before .before .args .rec)) (c .before .before .before .before .loop .start) (c .before .before .before .element-end .ensures) (c .before .more-terms .ensures) (c .if1 .taken))
 
--- src/lib.rt:133:16
 sub-term : tie.Need-sub-term Inv-loop μ-loop
 sub-term c = search needs
 
--- src/lib.rt:133:16
 sub-term-2 : tie.Need-sub-term-2 Inv-loop μ-loop
 sub-term-2 c = search needs
 
--- src/lib.rt:123:5
 loop-less : tie.Need-loop-less Inv-loop μ-loop
 loop-less c = omega arith
 
--- src/lib.rt:123:5
 loop-again : tie.Need-loop-again Inv-loop μ-loop
 loop-again c = (c .before .before .before .element-end .ensures .whole, omega (arith, c .before .before .before .before .loop .inv .1, c .before .before .before .element-end .ensures .from), λ a p. c .before .before .before .before .loop .inv .2 a (nth-later-on (now (c .before .before .before .before .before .before .args .rec)) (c .before .before .before .before .loop .start) (c .before .before .before .element-end .ensures) (c .before .more-terms .ensures) (c .if1 .left) p))
 

@@ -1,24 +1,17 @@
+-- `put_argument` meets its contract: a range's argument is its term, any other element is its own.
 use borrow.Author.Needs.{needs}
 use Rattle.arguments.proofs.TermLaws.{argument-term, argument-whole}
-use Rattle.arguments.specs.Terms.{termBytes, argumentBytes}
+use Rattle.arguments.specs.Terms.{termBytes}
 use lib.ListN.{length}
 use Prim.Native.Nat.{_≤_}
-use mathlib.Core.Path.{_≡_, refl, sym, ap, _∙_}
-use native.Mathlib.Omega.{arith}
+use mathlib.Core.Path.{refl, sym, _∙_}
 use denote.Ref.{now}
 use Rattle.arguments.proofs.put_argument.Statement.{statement}
 use Rattle.arguments.proofs.put_argument.Tie as tie
-use Rattle.arguments.proofs.put_argument.Reads as reads
-use Rattle.arguments.proofs.put_argument.Lts as lts
-use Rattle.arguments.proofs.is_range.Reads as is-range-reads
-use Rattle.arguments.proofs.put_term.Reads as put-term-reads
-use Rattle.fields.proofs.put_bytes.Reads as put-bytes-reads
 
--- src/lib.rt:169:8
 is-range-requires : tie.Need-is-range-requires
 is-range-requires c κs = search needs
 
--- src/lib.rt:170:9
 put-term-requires : tie.Need-put-term-requires
 put-term-requires c κs =
     let a = c .before .before .before .before .before .args in
@@ -26,29 +19,24 @@ put-term-requires c κs =
     let l : length (termBytes (now (a .element)) (a .term)) ≤ length (now (a .out)) = rw (argument-term (now (a .element)) (a .term) h) at (c .before .before .before .before .before .pre .1) in
     (h, c .before .before .before .before .before .pre .0, l)
 
--- src/lib.rt:170:9
 same-length : tie.Need-same-length
 same-length c = search needs
 
--- src/lib.rt:170:9
 returns : tie.Need-returns
 returns c =
     let a = c .before .before .before .before .before .before .before .before .args in
     let h = sym (c .before .before .before .before .before .is-range .ensures) ∙ c .before .before .before .before .if1 .taken in
     rw (argument-term (now (a .element)) (a .term) h) (c .before .before .put-term .ensures)
 
--- src/lib.rt:172:5
 put-bytes-requires : tie.Need-put-bytes-requires
 put-bytes-requires c κs =
     let a = c .before .before .before .before .before .args in
     let h = sym (c .before .before .is-range .ensures) ∙ c .before .if1 .left in
     rw (argument-whole (now (a .element)) (a .term) h) at (c .before .before .before .before .before .pre .1)
 
--- src/lib.rt:164:1
 same-length-2 : tie.Need-same-length-2
 same-length-2 c = search needs
 
--- src/lib.rt:164:1
 returns-2 : tie.Need-returns-2
 returns-2 c =
     let a = c .before .before .before .before .before .before .before .before .args in

@@ -1,3 +1,4 @@
+-- `put_term` meets its contract: three writers, each lent the buffer from where the one before ended.
 use borrow.Author.Needs.{needs}
 use Rattle.arguments.proofs.TermLaws.{range-long, lead-long, term-long}
 use Rattle.arguments.specs.Terms.{termValue, lastUnitAt, termBytes}
@@ -5,105 +6,77 @@ use Rattle.fields.specs.Units.{numeralBytes}
 use Rattle.rules.specs.Records.{field, fieldBytes}
 use Rattle.laws.specs.Over.{back-over, length-part}
 use Prim.Native.Nat.{ℕ, _+_, _-_}
-use mathlib.Core.List.{List, [], _∷_, _++_}
+use mathlib.Core.List.{List, [], _++_}
 use lib.ListN.{length, take, drop, getD, length-take, length-drop, length-append}
-use mathlib.Core.Path.{_≡_, refl, sym, ap, _∙_}
+use mathlib.Core.Path.{_≡_}
 use native.Mathlib.Omega.{arith}
 use denote.Ref.{now}
 use Rattle.arguments.proofs.put_term.Statement.{statement}
 use Rattle.arguments.proofs.put_term.Tie as tie
-use Rattle.arguments.proofs.put_term.Reads as reads
-use Rattle.arguments.proofs.put_term.Lts as lts
-use Rattle.arguments.proofs.term_value.Reads as term-value-reads
-use Rattle.fields.proofs.put_bytes.Reads as put-bytes-reads
-use Rattle.fields.proofs.put_field.Reads as put-field-reads
-use Rattle.fields.proofs.put_numeral.Reads as put-numeral-reads
 
--- src/lib.rt:163:16
 sub-last : tie.Need-sub-last
 sub-last c = omega (arith, range-long (now (c .before .before .args .range)) (c .before .before .pre .0))
 
--- src/lib.rt:164:24
 add-letter : tie.Need-add-letter
 add-letter c = search needs
 
--- src/lib.rt:164:18
 shared-slice-read-letter : tie.Need-shared-slice-read-letter
 shared-slice-read-letter c = omega (arith, range-long (now (c .before .before .before .args .range)) (c .before .before .before .pre .0))
 
--- src/lib.rt:165:9
 term-value-requires : tie.Need-term-value-requires
 term-value-requires c κs = search needs
 
--- src/lib.rt:166:48
 slice-aggregate-put-field : tie.Need-slice-aggregate-put-field
 slice-aggregate-put-field c = search needs
 
--- src/lib.rt:166:9
 put-field-requires : tie.Need-put-field-requires
 put-field-requires c κs = omega (arith, range-long (now (c .before .before .before .before .before .before .args .range)) (c .before .before .before .before .before .before .pre .0), term-long (now (c .before .before .before .before .before .before .args .range)) (c .before .before .before .before .before .before .args .term) (c .before .before .before .before .before .before .pre .0), c .before .before .before .before .before .before .pre .2)
 
--- src/lib.rt:167:23
 sub-put-bytes : tie.Need-sub-put-bytes
 sub-put-bytes c = omega (arith, c .before .before .put-field .ensures .0, range-long (now (c .before .before .before .before .before .before .before .before .before .args .range)) (c .before .before .before .before .before .before .before .before .before .pre .0), term-long (now (c .before .before .before .before .before .before .before .before .before .args .range)) (c .before .before .before .before .before .before .before .before .before .args .term) (c .before .before .before .before .before .before .before .before .before .pre .0), c .before .before .before .before .before .before .before .before .before .pre .2)
 
--- src/lib.rt:167:23
 part-put-bytes-start : tie.Need-part-put-bytes-start
 part-put-bytes-start c = omega (arith, c .before .before .put-field .ensures .0, range-long (now (c .before .before .before .before .before .before .before .before .before .args .range)) (c .before .before .before .before .before .before .before .before .before .pre .0), term-long (now (c .before .before .before .before .before .before .before .before .before .args .range)) (c .before .before .before .before .before .before .before .before .before .args .term) (c .before .before .before .before .before .before .before .before .before .pre .0), c .before .before .before .before .before .before .before .before .before .pre .2)
 
--- src/lib.rt:167:23
 part-put-bytes-end : tie.Need-part-put-bytes-end
 part-put-bytes-end c = search needs
 
--- src/lib.rt:167:42
 sub-put-bytes-2 : tie.Need-sub-put-bytes-2
 sub-put-bytes-2 c = omega (arith, range-long (now (c .before .before .before .before .before .before .before .before .before .before .args .range)) (c .before .before .before .before .before .before .before .before .before .before .pre .0))
 
--- src/lib.rt:167:42
 part-put-bytes-start-2 : tie.Need-part-put-bytes-start-2
 part-put-bytes-start-2 c = omega (arith, range-long (now (c .before .before .before .before .before .before .before .before .before .before .args .range)) (c .before .before .before .before .before .before .before .before .before .before .pre .0))
 
--- src/lib.rt:167:42
 part-put-bytes-end-2 : tie.Need-part-put-bytes-end-2
 part-put-bytes-end-2 c = search needs
 
--- src/lib.rt:167:5
 put-bytes-requires : tie.Need-put-bytes-requires
 put-bytes-requires c κs = omega (arith, lead-long (now (c .before .before .before .before .before .before .before .before .before .before .before .args .range)) (c .before .before .before .before .before .before .before .before .before .before .before .pre .0), length-part (c .before .before .before .before .put-field .last .0) (c .before .before .before .before .put-field .result), c .before .before .before .before .put-field .kept, c .before .before .before .before .put-field .ensures .0, range-long (now (c .before .before .before .before .before .before .before .before .before .before .before .args .range)) (c .before .before .before .before .before .before .before .before .before .before .before .pre .0), term-long (now (c .before .before .before .before .before .before .before .before .before .before .before .args .range)) (c .before .before .before .before .before .before .before .before .before .before .before .args .term) (c .before .before .before .before .before .before .before .before .before .before .before .pre .0), c .before .before .before .before .before .before .before .before .before .before .before .pre .2)
 
--- src/lib.rt:168:25
 sub-unit : tie.Need-sub-unit
 sub-unit c = omega (arith, range-long (now (c .before .before .before .before .before .before .before .before .before .before .before .before .before .before .args .range)) (c .before .before .before .before .before .before .before .before .before .before .before .before .before .before .pre .0))
 
--- src/lib.rt:168:16
 add-unit : tie.Need-add-unit
 add-unit c = search needs
 
--- src/lib.rt:169:25
 sub-put-numeral : tie.Need-sub-put-numeral
 sub-put-numeral c = omega (arith, c .before .before .before .before .before .before .before .put-field .ensures .0, range-long (now (c .before .before .before .before .before .before .before .before .before .before .before .before .before .before .args .range)) (c .before .before .before .before .before .before .before .before .before .before .before .before .before .before .pre .0), term-long (now (c .before .before .before .before .before .before .before .before .before .before .before .before .before .before .args .range)) (c .before .before .before .before .before .before .before .before .before .before .before .before .before .before .args .term) (c .before .before .before .before .before .before .before .before .before .before .before .before .before .before .pre .0), c .before .before .before .before .before .before .before .before .before .before .before .before .before .before .pre .2)
 
--- src/lib.rt:169:25
 part-put-numeral-start : tie.Need-part-put-numeral-start
 part-put-numeral-start c = omega (arith, c .before .before .before .before .before .before .before .put-field .ensures .0, range-long (now (c .before .before .before .before .before .before .before .before .before .before .before .before .before .before .args .range)) (c .before .before .before .before .before .before .before .before .before .before .before .before .before .before .pre .0), term-long (now (c .before .before .before .before .before .before .before .before .before .before .before .before .before .before .args .range)) (c .before .before .before .before .before .before .before .before .before .before .before .before .before .before .args .term) (c .before .before .before .before .before .before .before .before .before .before .before .before .before .before .pre .0), c .before .before .before .before .before .before .before .before .before .before .before .before .before .before .pre .2)
 
--- src/lib.rt:169:25
 part-put-numeral-end : tie.Need-part-put-numeral-end
 part-put-numeral-end c = search needs
 
--- src/lib.rt:169:5
 put-numeral-requires : tie.Need-put-numeral-requires
 put-numeral-requires c κs = simp (length-take, length-drop) (omega (arith, c .before .before .before .before .before .before .before .before .put-field .ensures .0, range-long (now (c .before .before .before .before .before .before .before .before .before .before .before .before .before .before .before .args .range)) (c .before .before .before .before .before .before .before .before .before .before .before .before .before .before .before .pre .0), term-long (now (c .before .before .before .before .before .before .before .before .before .before .before .before .before .before .before .args .range)) (c .before .before .before .before .before .before .before .before .before .before .before .before .before .before .before .args .term) (c .before .before .before .before .before .before .before .before .before .before .before .before .before .before .before .pre .0), c .before .before .before .before .before .before .before .before .before .before .before .before .before .before .before .pre .2))
 
--- src/lib.rt:170:5
 add-result : tie.Need-add-result
 add-result c = search needs
 
--- src/lib.rt:158:1
 same-length : tie.Need-same-length
 same-length c = search needs
 
--- src/lib.rt:158:1
 returns : tie.Need-returns
 unfolding termBytes
 returns c =

@@ -1,18 +1,14 @@
+-- `run_end` meets its contract: where the run ends from here, it ends from the start, since each turn passes over one field of it.
 use borrow.Author.Needs.{needs}
 use Rattle.arguments.specs.Runs.{Whole}
 use Rattle.arguments.proofs.RunLaws.{after-on, whole-after, run-stop, run-over, run-more}
 use Rattle.arguments.specs.Runs.{RunsTo}
 use lib.ListN.{length}
-use Prim.Native.Nat.{ℕ, _≤_, _-_}
-use mathlib.Core.Path.{_≡_, refl, sym, ap, _∙_}
+use Prim.Native.Nat.{ℕ, _-_}
 use denote.Ref.{now}
 use native.Mathlib.Omega.{arith}
 use Rattle.arguments.proofs.run_end.Statement.{statement}
 use Rattle.arguments.proofs.run_end.Tie as tie
-use Rattle.arguments.proofs.run_end.Reads as reads
-use Rattle.arguments.proofs.run_end.Lts as lts
-use Rattle.arguments.proofs.after.Reads as after-reads
-use Rattle.arguments.proofs.is_between.Reads as is-between-reads
 
 abbrev Inv-loop : tie.InvT-loop
 Inv-loop rec at low high end₀ end = Whole rec end × ((r : ℕ) → RunsTo low high rec end r → RunsTo low high rec at r)
@@ -20,35 +16,27 @@ Inv-loop rec at low high end₀ end = Whole rec end × ((r : ℕ) → RunsTo low
 abbrev μ-loop : tie.MeasureT-loop
 μ-loop rec at low high end₀ end = length rec - end
 
--- src/lib.rt:54:5
 loop-holds : tie.Need-loop-holds Inv-loop μ-loop
 loop-holds c = (c .before .pre, λ r p. p)
 
--- src/lib.rt:55:23
 shared-slice-read-is-between : tie.Need-shared-slice-read-is-between Inv-loop μ-loop
 shared-slice-read-is-between c = search needs
 
--- src/lib.rt:55:12
 is-between-requires : tie.Need-is-between-requires Inv-loop μ-loop
 is-between-requires c κs = search needs
 
--- src/lib.rt:56:13
 after-requires : tie.Need-after-requires Inv-loop μ-loop
 after-requires c κs = c .before .before .before .before .loop .inv .0
 
--- src/lib.rt:54:5
 loop-less : tie.Need-loop-less Inv-loop μ-loop
 loop-less c = omega (arith, c .after .ensures, after-on (now (c .before .before .before .before .before .before .before .args .rec)) (c .before .before .before .before .before .loop .end) (c .before .before .before .before .loop-test .taken))
 
--- src/lib.rt:54:5
 loop-again : tie.Need-loop-again Inv-loop μ-loop
 loop-again c = (rw (c .after .ensures) (whole-after (c .before .before .before .before .before .loop .inv .0)), λ r p. c .before .before .before .before .before .loop .inv .1 r (run-more (c .before .before .before .before .before .before .before .args .low) (c .before .before .before .before .before .before .before .args .high) (now (c .before .before .before .before .before .before .before .args .rec)) (c .before .before .before .before .before .loop .end) (c .before .before .before .before .loop-test .taken) (c .before .before .is-between .ensures) (c .before .if1 .taken) (rw (c .after .ensures) at p)))
 
--- src/lib.rt:58:13
 returns : tie.Need-returns Inv-loop μ-loop
 returns c = c .before .before .before .before .loop .inv .1 (c .before .before .before .before .loop .end) (run-stop (c .before .before .before .before .before .before .args .low) (c .before .before .before .before .before .before .args .high) (now (c .before .before .before .before .before .before .args .rec)) (c .before .before .before .before .loop .end) (c .before .before .before .before .loop .inv .0) (c .before .is-between .ensures) (c .if1 .left))
 
--- src/lib.rt:49:1
 returns-2 : tie.Need-returns-2 Inv-loop μ-loop
 returns-2 c = c .before .loop .inv .1 (c .before .loop .end) (run-over (c .before .before .before .args .low) (c .before .before .before .args .high) (now (c .before .before .before .args .rec)) (c .before .loop .end) (c .before .loop .inv .0) (c .loop-test .left))
 

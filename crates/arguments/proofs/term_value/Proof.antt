@@ -1,36 +1,26 @@
-use borrow.Author.Needs.{needs}
+-- `term_value` meets its contract: no term is above the upper end, so product and sum fit.
 use Rattle.arguments.proofs.TermLaws.{range-long, term-below}
 use Rattle.arguments.specs.Terms.{termValue}
-use mathlib.Core.Path.{_≡_, refl, sym, ap, _∙_}
 use native.Mathlib.Omega.{arith}
 use denote.Ref.{now}
 use Rattle.arguments.proofs.term_value.Statement.{statement}
 use Rattle.arguments.proofs.term_value.Tie as tie
-use Rattle.arguments.proofs.term_value.Reads as reads
-use Rattle.arguments.proofs.term_value.Lts as lts
-use Rattle.arguments.proofs.number_at.Reads as number-at-reads
 
--- src/lib.rt:153:34
 sub-number-at : tie.Need-sub-number-at
 sub-number-at c = omega (arith, range-long (now (c .before .args .range)) (c .before .pre .0))
 
--- src/lib.rt:153:9
 number-at-requires : tie.Need-number-at-requires
 number-at-requires c κs = omega (arith, range-long (now (c .before .args .range)) (c .before .pre .0))
 
--- src/lib.rt:154:20
 number-at-requires-2 : tie.Need-number-at-requires-2
 number-at-requires-2 c κs = omega (arith, range-long (now (c .before .before .args .range)) (c .before .before .pre .0))
 
--- src/lib.rt:154:13
 mul-result : tie.Need-mul-result
 mul-result c = rw (c .number-at2 .ensures) (omega (arith, term-below (now (c .before .before .before .args .range)) (c .before .before .before .args .term) (c .before .before .before .pre .0) (c .before .before .before .pre .1), c .before .before .shared-slice-known .given 3, c .before .before .shared-slice-known .given 4, c .before .before .shared-slice-known .given 5, c .before .before .shared-slice-known .given 6))
 
--- src/lib.rt:154:5
 add-result : tie.Need-add-result
 add-result c = rw (c .number-at2 .ensures) (omega (arith, term-below (now (c .before .before .before .args .range)) (c .before .before .before .args .term) (c .before .before .before .pre .0) (c .before .before .before .pre .1), c .before .number-at .ensures, c .before .before .shared-slice-known .given 3, c .before .before .shared-slice-known .given 4, c .before .before .shared-slice-known .given 5, c .before .before .shared-slice-known .given 6))
 
--- src/lib.rt:149:1
 returns : tie.Need-returns
 unfolding termValue
 returns c = rw (c .number-at2 .ensures, c .before .number-at .ensures)

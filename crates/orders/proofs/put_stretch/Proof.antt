@@ -1,78 +1,58 @@
+-- `put_stretch` meets its contract: the argument is written behind the head, into the part of the buffer that begins there.
 use borrow.Author.Needs.{needs}
 use Rattle.orders.proofs.StretchLaws.{stretch-long, bytes-long}
 use Rattle.orders.specs.Stretches.{stretchBytes}
 use Rattle.arguments.specs.Terms.{bytesIn, argumentBytes}
 use Rattle.laws.specs.Over.{back-over, length-part}
-use lib.ListN.{length}
 use Prim.Native.Nat.{ℕ, _-_}
 use mathlib.Core.List.{List}
-use mathlib.Core.Path.{_≡_, refl, sym, ap, _∙_}
 use native.Mathlib.Omega.{arith}
 use denote.Ref.{now}
 use Rattle.orders.proofs.put_stretch.Statement.{statement}
 use Rattle.orders.proofs.put_stretch.Tie as tie
-use Rattle.orders.proofs.put_stretch.Reads as reads
-use Rattle.orders.proofs.put_stretch.Lts as lts
-use Rattle.arguments.proofs.put_argument.Reads as put-argument-reads
-use Rattle.fields.proofs.put_bytes.Reads as put-bytes-reads
 
--- src/lib.rt:95:16
 sub-kept : tie.Need-sub-kept
 sub-kept c = search needs
 
--- src/lib.rt:96:28
 sub-put-bytes : tie.Need-sub-put-bytes
 sub-put-bytes c = search needs
 
--- src/lib.rt:96:28
 part-put-bytes-start : tie.Need-part-put-bytes-start
 part-put-bytes-start c = search needs
 
--- src/lib.rt:96:28
 part-put-bytes-end : tie.Need-part-put-bytes-end
 part-put-bytes-end c = search needs
 
--- src/lib.rt:96:5
 put-bytes-requires : tie.Need-put-bytes-requires
 put-bytes-requires c κs = omega (arith, bytes-long (now (c .before .before .before .before .args .rec)) (c .before .before .before .before .args .at) (c .before .before .before .before .args .stretch .value) (c .before .before .before .before .pre .0 .value) (omega (arith, c .before .before .before .before .pre .0)), stretch-long (now (c .before .before .before .before .args .rec)) (c .before .before .before .before .args .at) (c .before .before .before .before .args .stretch) (c .before .before .before .before .pre .0), c .before .before .before .before .pre .1)
 
--- src/lib.rt:97:36
 sub-put-argument : tie.Need-sub-put-argument
 sub-put-argument c = omega (arith, stretch-long (now (c .before .before .before .before .before .before .before .args .rec)) (c .before .before .before .before .before .before .before .args .at) (c .before .before .before .before .before .before .before .args .stretch) (c .before .before .before .before .before .before .before .pre .0), c .before .before .before .before .before .before .before .pre .1)
 
--- src/lib.rt:97:36
 part-put-argument-start : tie.Need-part-put-argument-start
 part-put-argument-start c = omega (arith, stretch-long (now (c .before .before .before .before .before .before .before .args .rec)) (c .before .before .before .before .before .before .before .args .at) (c .before .before .before .before .before .before .before .args .stretch) (c .before .before .before .before .before .before .before .pre .0), c .before .before .before .before .before .before .before .pre .1)
 
--- src/lib.rt:97:36
 part-put-argument-end : tie.Need-part-put-argument-end
 part-put-argument-end c = search needs
 
--- src/lib.rt:97:54
 sub-put-argument-2 : tie.Need-sub-put-argument-2
 sub-put-argument-2 c = search needs
 
--- src/lib.rt:97:54
 part-put-argument-start-2 : tie.Need-part-put-argument-start-2
 part-put-argument-start-2 c = search needs
 
--- src/lib.rt:97:54
 part-put-argument-end-2 : tie.Need-part-put-argument-end-2
 part-put-argument-end-2 c = search needs
 
--- src/lib.rt:97:12
 put-argument-requires : tie.Need-put-argument-requires
 put-argument-requires c κs = (c .before .before .before .before .before .before .before .before .before .pre .0 .term, omega (arith, length-part (c .before .before .before .before .put-bytes .last .0) (c .before .before .before .before .before .before .before .before .before .args .stretch .value - c .before .before .before .before .before .before .before .before .before .args .at), c .before .before .before .before .put-bytes .kept, stretch-long (now (c .before .before .before .before .before .before .before .before .before .args .rec)) (c .before .before .before .before .before .before .before .before .before .args .at) (c .before .before .before .before .before .before .before .before .before .args .stretch) (c .before .before .before .before .before .before .before .before .before .pre .0), c .before .before .before .before .before .before .before .before .before .pre .1))
 
--- src/lib.rt:97:5
 add-result : tie.Need-add-result
 add-result c = omega (arith, c .before .before .put-argument .ensures .0, stretch-long (now (c .before .before .before .before .before .before .before .before .before .before .before .before .args .rec)) (c .before .before .before .before .before .before .before .before .before .before .before .before .args .at) (c .before .before .before .before .before .before .before .before .before .before .before .before .args .stretch) (c .before .before .before .before .before .before .before .before .before .before .before .before .pre .0), c .before .before .before .before .before .before .before .before .before .before .before .before .pre .1)
 
--- src/lib.rt:87:1
 same-length : tie.Need-same-length
 same-length c = search needs
 
--- src/lib.rt:87:1
 returns : tie.Need-returns
 unfolding stretchBytes
 returns c =

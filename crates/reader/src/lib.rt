@@ -1,0 +1,128 @@
+// The reader: a command's text into its record, or a refusal with its number and place. Nothing is written before every refusal is excluded.
+use bases;
+use blocks;
+use blocks::Checked;
+use chars;
+use recorder;
+use rules::Answer;
+use table::Verdict;
+use tokens;
+use tokens::Filled;
+ghost use Prim.Native.Nat.{_≤_};
+ghost use mathlib.Core.Path.{_≡_};
+ghost use lib.ListN.{length, take};
+ghost use Rattle.rules.specs.Answers.{Reads};
+ghost use Rattle.rules.specs.Refusals.{mostText};
+ghost use Rattle.rules.specs.Tokens.{scan};
+ghost use Rattle.chars.specs.Classes.{table};
+ghost use Rattle.reader.specs.Reader.{TokensOf, Records, RecordsText};
+
+// Texts of at most so many bytes are read through short tables.
+const SHORT: usize = 128;
+// "over 1,024 bytes"
+const MOST_TEXT: usize = 1024;
+
+// 2: text too long.
+const TOO_LONG: u8 = 2;
+// 17: buffer too short.
+const NO_ROOM: u8 = 17;
+
+// The tokens of a text of `len` bytes into its record: 6 to 17.
+fn put_record(toks: &[u64], contents: &[u8], bases: &[u8], len: u32, out: &mut [u8]) -> Answer
+    requires { ⌜ TokensOf (now toks) (now contents) ⌝ }
+    ensures { λ r. ⌜ Records (now (toks .entry)) (now (contents .entry)) (now (bases .entry)) len (now (out .entry)) r (now (out .exit)) ⌝ }
+{
+    match blocks::command(toks, contents, bases, len) {
+        Checked::Refused { no, place } => Answer::Refused(no, place),
+        Checked::Fine { bytes } => {
+            if out.len() < bytes as usize {
+                return Answer::Refused(NO_ROOM, bytes);
+            }
+            Answer::Done(recorder::put_command(out, toks, contents, bases) as u32)
+        }
+    }
+}
+
+// The first n tokens of a table into their record.
+fn put_filled(
+    toks: &[u64],
+    n: usize,
+    contents: &[u8],
+    bases: &[u8],
+    len: u32,
+    out: &mut [u8],
+) -> Answer
+    requires { ⌜ (n ≤ length (now toks)) × TokensOf (take n (now toks)) (now contents) ⌝ }
+    ensures { λ r. ⌜ Records (take n (now (toks .entry))) (now (contents .entry)) (now (bases .entry)) len (now (out .entry)) r (now (out .exit)) ⌝ }
+{
+    put_record(&toks[..n], contents, bases, len, out)
+}
+
+// A text into its record, through tables that are as long as the text at least: 3 to 17.
+fn with_tables(
+    text: &[u8],
+    classes: &[u8; 128],
+    bases: &[u8],
+    toks: &mut [u64],
+    contents: &mut [u8],
+    out: &mut [u8],
+) -> Answer
+    requires { ⌜ (now classes ≡ table) × (length (now text) ≤ mostText) × (length (now text) ≤ length (now toks)) × (length (now text) ≤ length (now contents)) ⌝ }
+    ensures { λ r. ⌜ RecordsText (now (text .entry)) (now (bases .entry)) (now (out .entry)) r (now (out .exit)) ⌝ }
+{
+    match tokens::tokens(text, classes, toks, contents) {
+        Filled::Refused { number, place } => Answer::Refused(number, place as u32),
+        Filled::Done { tokens, bytes } => put_filled(
+            toks,
+            tokens,
+            contents,
+            bases,
+            text.len() as u32,
+            out,
+        ),
+    }
+}
+
+// A short text into its record.
+fn read_short(text: &[u8], classes: &[u8; 128], bases: &[u8], out: &mut [u8]) -> Answer
+    requires { ⌜ (now classes ≡ table) × (length (now text) ≤ 128) ⌝ }
+    ensures { λ r. ⌜ RecordsText (now (text .entry)) (now (bases .entry)) (now (out .entry)) r (now (out .exit)) ⌝ }
+{
+    let mut toks = [0u64; 128];
+    let mut contents = [0u8; 128];
+    with_tables(text, classes, bases, &mut toks, &mut contents, out)
+}
+
+// A long text into its record.
+fn read_long(text: &[u8], classes: &[u8; 128], bases: &[u8], out: &mut [u8]) -> Answer
+    requires { ⌜ (now classes ≡ table) × (length (now text) ≤ mostText) ⌝ }
+    ensures { λ r. ⌜ RecordsText (now (text .entry)) (now (bases .entry)) (now (out .entry)) r (now (out .exit)) ⌝ }
+{
+    let mut toks = [0u64; 1024];
+    let mut contents = [0u8; 1024];
+    with_tables(text, classes, bases, &mut toks, &mut contents, out)
+}
+
+// A text into its record, 2 first.
+fn read_text(text: &[u8], bases: &[u8], out: &mut [u8]) -> Answer
+    ensures { λ r. ⌜ RecordsText (now (text .entry)) (now (bases .entry)) (now (out .entry)) r (now (out .exit)) ⌝ }
+{
+    if MOST_TEXT < text.len() {
+        return Answer::Refused(TOO_LONG, MOST_TEXT as u32);
+    }
+    let classes = chars::CLASSES;
+    if text.len() <= SHORT {
+        return read_short(text, &classes, bases, out);
+    }
+    read_long(text, &classes, bases, out)
+}
+
+// Reads one command into a record: 1, then the text.
+pub fn read(text: &[u8], bases: &[u8], out: &mut [u8]) -> Answer
+    ensures { λ r. ⌜ Reads (now (text .entry)) (now (bases .entry)) (now (out .entry)) r (now (out .exit)) ⌝ }
+{
+    match bases::letters(bases) {
+        Verdict::Refused { no, place } => Answer::Refused(no, place),
+        Verdict::Fine => read_text(text, bases, out),
+    }
+}
