@@ -1,0 +1,162 @@
+// The lines of standard input, however they arrive: from a file or a pipe, typed or pasted.
+mod digits;
+
+pub use digits::Decoded;
+pub use digits::Number;
+pub use digits::decimal;
+pub use digits::decode;
+pub use digits::write_hex;
+ghost use Prim.Native.Nat.{_≤_};
+use libc::STDIN_FILENO;
+
+// How many bytes are read at a time.
+pub const BLOCK: usize = 4096;
+
+const NEWLINE: u8 = b'\n';
+
+// How far the block that was read last is served: its bytes from `at` up to `end` are left.
+pub struct Input {
+    pub at: usize,
+    pub end: usize,
+    pub over: bool,
+}
+
+// A line without its newline. Its first `kept` bytes stand in the buffer; it has `long` in all.
+pub enum Got {
+    Line {
+        kept: usize,
+        long: usize,
+        rest: Input,
+    },
+    End,
+}
+
+// Nothing is read yet.
+pub fn start() -> Input {
+    Input {
+        at: 0,
+        end: 0,
+        over: false,
+    }
+}
+
+// The next line. It is served as soon as its newline has come, so that a typed line does not wait
+// for the next one; what stands behind the last newline is a line too, unless it is empty. No line
+// takes as many reads as there are turns.
+pub fn next_line(block: &mut [u8; BLOCK], input: Input, line: &mut [u8]) -> Got {
+    let mut rest = input;
+    let mut long: usize = 0;
+    let mut turns = u64::MAX;
+    while 0 < turns {
+        rest = filled(block, rest);
+        if rest.over {
+            if long == 0 {
+                return Got::End;
+            }
+            return served(long, line.len(), rest);
+        }
+        let at = rest.at;
+        let end = rest.end;
+        let stop = line_end(block, at, end);
+        keep(block, at, stop, line, long);
+        long = sum(long, stop - at);
+        if stop < end {
+            rest.at = stop + 1;
+            return served(long, line.len(), rest);
+        }
+        rest.at = end;
+        turns -= 1;
+    }
+    Got::End
+}
+
+// The first n bytes, or all where there are fewer.
+pub fn front(bytes: &[u8], n: usize) -> &[u8] {
+    if n <= bytes.len() {
+        &bytes[0..n]
+    } else {
+        bytes
+    }
+}
+
+// The input with bytes to serve: where none are left it reads once, and is over if nothing came.
+fn filled(block: &mut [u8; BLOCK], input: Input) -> Input
+    ensures { λ r. ⌜ (r .at ≤ r .end) × (r .end ≤ 4096) ⌝ }
+{
+    let at = input.at;
+    let end = input.end;
+    if input.over {
+        return Input {
+            at: 0,
+            end: 0,
+            over: true,
+        };
+    }
+    if at < end {
+        if end <= BLOCK {
+            return input;
+        }
+    }
+    let n = read_block(block);
+    Input {
+        at: 0,
+        end: n,
+        over: n == 0,
+    }
+}
+
+// How many bytes one read of standard input puts into the block: none at its end or if it fails.
+fn read_block(block: &mut [u8]) -> usize
+    requires { do ⌜ (← ⟦block.len()⟧) ≤ 4096 ⌝ }
+    ensures { λ r. ⌜ r ≤ 4096 ⌝ }
+{
+    let got = libc::read(STDIN_FILENO, block);
+    io::count(got, block)
+}
+
+// Where the line that goes on at `at` ends: at its newline, or at `end`.
+fn line_end(block: &[u8; BLOCK], at: usize, end: usize) -> usize
+    requires { ⌜ (at ≤ end) × (end ≤ 4096) ⌝ }
+    ensures { λ r. ⌜ (at ≤ r) × (r ≤ end) ⌝ }
+{
+    let mut i = at;
+    while i < end {
+        if block[i] == NEWLINE {
+            return i;
+        }
+        i += 1;
+    }
+    i
+}
+
+// Copies the block's bytes from `at` up to `stop` behind the first `long` bytes of the line, as far
+// as the line has room.
+fn keep(block: &[u8; BLOCK], at: usize, stop: usize, line: &mut [u8], long: usize)
+    requires { ⌜ stop ≤ 4096 ⌝ }
+{
+    let mut i = at;
+    let mut to = long;
+    while i < stop {
+        if line.len() <= to {
+            return;
+        }
+        line[to] = block[i];
+        to += 1;
+        i += 1;
+    }
+}
+
+// A line of `long` bytes, of which a buffer with `room` bytes has kept what fits.
+fn served(long: usize, room: usize, rest: Input) -> Got {
+    let kept = if long < room { long } else { room };
+    Got::Line { kept, long, rest }
+}
+
+// The sum, or the largest number where it would be larger.
+fn sum(a: usize, b: usize) -> usize {
+    if a <= usize::MAX - b {
+        a + b
+    } else {
+        usize::MAX
+    }
+}

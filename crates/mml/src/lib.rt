@@ -1,0 +1,82 @@
+// The public face: read, print, order and count, for Rattle and for C.
+ghost use mathlib.Core.Path.{_≡_};
+ghost use Rattle.rules.specs.Answers.{reading, printing, ordering, counting, Reads, Prints, Orders, Counts};
+ghost use Rattle.mml.specs.Interface.{packed, Packs, PacksCount};
+use rules::Answer;
+
+// The answer's number is multiplied by this; the value or the place stands below it.
+const NUMBER: u64 = 4294967296;
+
+// Reads one MML command into a record.
+pub fn read(text: &[u8], bases: &[u8], out: &mut [u8]) -> Answer
+    ensures { λ r. ⌜ Reads (now (text .entry)) (now (bases .entry)) (now (out .entry)) r (now (out .exit)) ⌝ }
+{
+    reader::read(text, bases, out)
+}
+
+// Prints a record as a command.
+pub fn print(rec: &[u8], out: &mut [u8]) -> Answer
+    ensures { λ r. ⌜ Prints (now (rec .entry)) (now (out .entry)) r (now (out .exit)) ⌝ }
+{
+    printer::print(rec, out)
+}
+
+// Writes order number k of a record.
+pub fn order(rec: &[u8], k: u64, out: &mut [u8]) -> Answer
+    ensures { λ r. ⌜ Orders (now (rec .entry)) k (now (out .entry)) r (now (out .exit)) ⌝ }
+{
+    orders::order(rec, k, out)
+}
+
+// Counts the orders of a record.
+pub fn count(rec: &[u8]) -> Answer
+    ensures { λ r. ⌜ Counts (now (rec .entry)) r ⌝ }
+{
+    records::count(rec)
+}
+
+// An answer as one number.
+fn pack(answer: Answer) -> u64
+    ensures { λ r. ⌜ r ≡ packed answer ⌝ }
+{
+    match answer {
+        Answer::Done(value) => value as u64,
+        Answer::Refused(number, place) => number as u64 * NUMBER + place as u64,
+    }
+}
+
+// `mml_read` of include/mml.h.
+#[no_mangle]
+pub extern "C" fn mml_read(text: &[u8], bases: &[u8], out: &mut [u8]) -> u64
+    ensures { λ r. ⌜ Packs (reading (now (text .entry)) (now (bases .entry)) (now (out .entry))) (now (out .entry)) r (now (out .exit)) ⌝ }
+{
+    let answer = read(text, bases, out);
+    pack(answer)
+}
+
+// `mml_print` of include/mml.h.
+#[no_mangle]
+pub extern "C" fn mml_print(rec: &[u8], out: &mut [u8]) -> u64
+    ensures { λ r. ⌜ Packs (printing (now (rec .entry)) (now (out .entry))) (now (out .entry)) r (now (out .exit)) ⌝ }
+{
+    let answer = print(rec, out);
+    pack(answer)
+}
+
+// `mml_order` of include/mml.h.
+#[no_mangle]
+pub extern "C" fn mml_order(rec: &[u8], k: u64, out: &mut [u8]) -> u64
+    ensures { λ r. ⌜ Packs (ordering (now (rec .entry)) k (now (out .entry))) (now (out .entry)) r (now (out .exit)) ⌝ }
+{
+    let answer = order(rec, k, out);
+    pack(answer)
+}
+
+// `mml_count` of include/mml.h.
+#[no_mangle]
+pub extern "C" fn mml_count(rec: &[u8]) -> u64
+    ensures { λ r. ⌜ PacksCount (now (rec .entry)) r ⌝ }
+{
+    let answer = count(rec);
+    pack(answer)
+}

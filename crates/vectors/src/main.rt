@@ -1,0 +1,230 @@
+// Runs the lines of standard input through the library, and writes what came of each. A line is
+// `BASES|COMMAND`, or `#RECORD` with the record in hexadecimal.
+ghost use Prim.Native.Nat.{_<_, _≤_};
+use libc::STDOUT_FILENO;
+use lines::BLOCK;
+use lines::Decoded;
+use lines::Got;
+use lines::front;
+use rules::Answer;
+
+// The longest line of the input that is run whole.
+const LONGEST_LINE: usize = 4096;
+
+// The limits of a command.
+const LONGEST_TEXT: usize = 1024;
+
+const MOST_PLACES: usize = 32;
+
+// The tag of the fields that hold a place's base letter.
+const PLACE_TAG: u8 = 3;
+
+// Runs standard input.
+fn main() {
+    let mut block = io::buffer();
+    let mut line = [0u8; LONGEST_LINE];
+    run(&mut block, &mut line);
+}
+
+// Runs one line after the other. No input has as many lines as there are turns.
+fn run(block: &mut [u8; BLOCK], line: &mut [u8]) {
+    let mut input = lines::start();
+    let mut turns = u64::MAX;
+    while 0 < turns {
+        match lines::next_line(block, input, line) {
+            Got::End => {
+                return;
+            }
+            Got::Line {
+                kept,
+                long: _,
+                rest,
+            } => {
+                run_line(front(line, kept));
+                input = rest;
+            }
+        }
+        turns -= 1;
+    }
+}
+
+// Runs a line, and ends what is written of it.
+fn run_line(line: &[u8]) {
+    if byte(line, 0) == b'#' {
+        run_record(behind(line, 0));
+    } else {
+        let bar = find_bar(line);
+        run_command(front(line, bar), behind(line, bar));
+    }
+    io::write_all(STDOUT_FILENO, b"\n");
+}
+
+// Where the bar stands that ends the bases, or the length where there is none.
+fn find_bar(line: &[u8]) -> usize {
+    let mut i = 0;
+    while i < line.len() {
+        if line[i] == b'|' {
+            return i;
+        }
+        i += 1;
+    }
+    i
+}
+
+// The bytes behind the one at `at`.
+fn behind(bytes: &[u8], at: usize) -> &[u8] {
+    if at < bytes.len() {
+        &bytes[at + 1..]
+    } else {
+        &bytes[0..0]
+    }
+}
+
+// The byte at `at`, or 0 past the end.
+fn byte(bytes: &[u8], at: usize) -> u8 {
+    if at < bytes.len() { bytes[at] } else { 0 }
+}
+
+// Reads a command, and writes its record or the refusal.
+fn run_command(bases: &[u8], text: &[u8]) {
+    io::write_all(STDOUT_FILENO, text);
+    io::write_all(STDOUT_FILENO, b" -> ");
+    let mut record = io::large_buffer();
+    match mml::read(text, bases, &mut record) {
+        Answer::Done(n) => write_record(front(&record, n as usize)),
+        Answer::Refused(number, place) => write_refusal(number, place),
+    }
+}
+
+// Writes the number and the place of a refusal.
+fn write_refusal(number: u8, place: u32) {
+    io::print_decimal(STDOUT_FILENO, number as u64);
+    io::write_all(STDOUT_FILENO, b" at ");
+    io::print_decimal(STDOUT_FILENO, place as u64);
+}
+
+// Writes a record, its text, its number of orders, and whether the text is read as this record.
+fn write_record(record: &[u8]) {
+    lines::write_hex(STDOUT_FILENO, record);
+    io::write_all(STDOUT_FILENO, b" | ");
+    let mut text = [0u8; LONGEST_TEXT];
+    match mml::print(record, &mut text) {
+        Answer::Done(n) => write_text(record, front(&text, n as usize)),
+        Answer::Refused(number, place) => write_refusal(number, place),
+    }
+}
+
+// Writes a record's text and what follows it.
+fn write_text(record: &[u8], text: &[u8]) {
+    io::write_all(STDOUT_FILENO, text);
+    io::write_all(STDOUT_FILENO, b" | ");
+    match mml::count(record) {
+        Answer::Done(n) => write_count(n),
+        Answer::Refused(number, place) => write_refusal(number, place),
+    }
+    if is_read_again(record, text) {
+        io::write_all(STDOUT_FILENO, b" | again: same");
+    } else {
+        io::write_all(STDOUT_FILENO, b" | again: different");
+    }
+}
+
+// Writes a number of orders.
+fn write_count(n: u32) {
+    io::print_decimal(STDOUT_FILENO, n as u64);
+    io::write_all(STDOUT_FILENO, b" orders");
+}
+
+// Whether the text, read with the record's own bases, gives the record.
+fn is_read_again(record: &[u8], text: &[u8]) -> bool {
+    let mut bases = [0u8; MOST_PLACES];
+    let mut again = io::large_buffer();
+    let n = own_bases(record, &mut bases);
+    match mml::read(text, front(&bases, n), &mut again) {
+        Answer::Done(k) => check::same(front(&again, k as usize), record),
+        Answer::Refused(_, _) => false,
+    }
+}
+
+// Puts the base letters of a record's places into `bases`, and answers how many.
+fn own_bases(record: &[u8], bases: &mut [u8]) -> usize {
+    let mut at = 0;
+    let mut n = 0;
+    while at < record.len() {
+        n = keep_base(record, at, bases, n);
+        at += 3 + content_length(record, at);
+    }
+    n
+}
+
+// Puts the base letter of the field at `at`, if that is a place, behind the first n.
+fn keep_base(record: &[u8], at: usize, bases: &mut [u8], n: usize) -> usize
+    requires { do ⌜ at < (← ⟦record.len()⟧) ⌝ }
+{
+    if record[at] != PLACE_TAG {
+        return n;
+    }
+    if bases.len() <= n {
+        return n;
+    }
+    bases[n] = byte(record, at + 3);
+    n + 1
+}
+
+// The number of content bytes of the field at `at`.
+fn content_length(record: &[u8], at: usize) -> usize
+    requires { do ⌜ at < (← ⟦record.len()⟧) ⌝ }
+    ensures { λ r. ⌜ r < 65536 ⌝ }
+{
+    let high = byte(record, at + 1) as usize;
+    let low = byte(record, at + 2) as usize;
+    high * 256 + low
+}
+
+// Takes a record in hexadecimal, and writes its number of orders with the first and the last.
+fn run_record(digits: &[u8]) {
+    io::write_all(STDOUT_FILENO, digits);
+    io::write_all(STDOUT_FILENO, b" -> ");
+    let mut record = io::large_buffer();
+    match lines::decode(digits, &mut record) {
+        Decoded::Bytes(n) => write_orders(front(&record, n)),
+        Decoded::Wrong(_) => {
+            io::write_all(STDOUT_FILENO, b"no hexadecimal");
+        }
+    }
+}
+
+// Writes the number of a record's orders, its first and its last order.
+fn write_orders(record: &[u8]) {
+    match mml::count(record) {
+        Answer::Done(n) => {
+            write_count(n);
+            write_order(record, 0);
+            if 0 < n {
+                write_order(record, (n - 1) as u64);
+            }
+        }
+        Answer::Refused(number, place) => write_refusal(number, place),
+    }
+}
+
+// Writes the text of order k.
+fn write_order(record: &[u8], k: u64) {
+    io::write_all(STDOUT_FILENO, b" | ");
+    let mut order = io::large_buffer();
+    let mut text = [0u8; LONGEST_TEXT];
+    match order_text(record, k, &mut order, &mut text) {
+        Answer::Done(n) => {
+            io::write_all(STDOUT_FILENO, front(&text, n as usize));
+        }
+        Answer::Refused(number, place) => write_refusal(number, place),
+    }
+}
+
+// Puts the text of order k into `text`, by way of the order's record.
+fn order_text(record: &[u8], k: u64, order: &mut [u8], text: &mut [u8]) -> Answer {
+    match mml::order(record, k, order) {
+        Answer::Done(n) => mml::print(front(order, n as usize), text),
+        Answer::Refused(number, place) => Answer::Refused(number, place),
+    }
+}

@@ -1,0 +1,53 @@
+-- `verbs::number_orders` is safe and ends. The two buffers keep their lengths.
+-- Assumes nothing.
+use borrow.Author.Needs.{needs}
+use mathlib.Core.Path.{_≡_}
+use lib.ListN.{length}
+use Prim.Native.Nat.{_-_}
+use Rattle.verbs.proofs.number_orders.Statement.{statement}
+use Rattle.verbs.proofs.number_orders.Tie as tie
+
+abbrev Inv-loop : tie.InvT-loop
+Inv-loop «record» count order₀ text₀ k₀ order text k = (length order ≡ length order₀) × (length text ≡ length text₀)
+
+abbrev μ-loop : tie.MeasureT-loop
+μ-loop «record» count order₀ text₀ k₀ order text k = count - k
+
+loop-holds : tie.Need-loop-holds Inv-loop μ-loop
+loop-holds c = search needs
+
+write-numbered-requires : tie.Need-write-numbered-requires Inv-loop μ-loop
+write-numbered-requires c κs = search needs
+
+add-k : tie.Need-add-k Inv-loop μ-loop
+add-k c = search needs
+
+loop-less : tie.Need-loop-less Inv-loop μ-loop
+loop-less c = search needs
+
+loop-again : tie.Need-loop-again Inv-loop μ-loop
+loop-again c = search needs
+
+same-length : tie.Need-same-length Inv-loop μ-loop
+same-length c = search needs
+
+same-length-2 : tie.Need-same-length-2 Inv-loop μ-loop
+same-length-2 c = search needs
+
+returns : tie.Need-returns Inv-loop μ-loop
+returns c = search needs
+
+pub number-orders-spec : {M : Type 1} → statement M
+number-orders-spec =
+    tie.close
+    (tie.spec
+    Inv-loop
+    μ-loop
+    loop-holds
+    write-numbered-requires
+    add-k
+    loop-less
+    loop-again
+    same-length
+    same-length-2
+    returns)
