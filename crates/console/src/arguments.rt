@@ -76,9 +76,9 @@ fn asked_order() -> Asked {
 
 // Says what is wrong with the arguments.
 fn complain(what: &[u8]) -> Asked {
-    io::write_all(STDERR_FILENO, b"console: ");
+    io::write_all(STDERR_FILENO, b"mml: ");
     io::write_all(STDERR_FILENO, what);
-    io::write_all(STDERR_FILENO, b"; `console help` lists the verbs\n");
+    io::write_all(STDERR_FILENO, b"; `./mml help` lists the verbs\n");
     Asked::Wrong
 }
 

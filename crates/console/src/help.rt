@@ -3,7 +3,7 @@ use libc::STDOUT_FILENO;
 
 // Writes what the verbs do, and an example.
 pub fn write() {
-    say(b"console VERB: serves each line of standard input");
+    say(b"mml VERB: serves each line of standard input");
     say(b"");
     say(b"  check [BASES]    is this command accepted? if not, why");
     say(b"  record [BASES]   the command's record, in hexadecimal");
@@ -17,7 +17,7 @@ pub fn write() {
     say(b"with a caret under its place, by `check` on standard");
     say(b"output and by the other verbs on standard error.");
     say(b"");
-    say(b"  echo 'SET-ATT:LIN=7-1&&-3,LEV=3.5;' | console orders DD");
+    say(b"  echo 'SET-ATT:LIN=7-1&&-3,LEV=3.5;' | ./mml orders DD");
     say(b"  0: SET-ATT:LIN=7-1,LEV=3.5;");
     say(b"  1: SET-ATT:LIN=7-2,LEV=3.5;");
     say(b"  2: SET-ATT:LIN=7-3,LEV=3.5;");

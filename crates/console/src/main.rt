@@ -1,5 +1,5 @@
 // The operator's and the integrator's console. Each line of standard input is a command or, for
-// one verb, a record in hexadecimal. `console help` says what the verbs do with it.
+// one verb, a record in hexadecimal. `./mml help` says what the verbs do with it.
 mod arguments;
 mod help;
 

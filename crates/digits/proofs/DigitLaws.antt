@@ -68,6 +68,10 @@ digits-most (suc k) b n =
     (λ y. rw (digits-low k b n y) (omega arith))
     (λ y. rw (digits-high k b n y, length-append) (omega (arith, digits-most k b (n / b))))
 
+pub whole-one : (b n : ℕ) → n < b → whole b n ≡ digitChar n ∷ []
+unfolding whole
+whole-one b n h = digits-low 31 b n (lt-ltb n b h)
+
 pub whole-most : (b n : ℕ) → length (whole b n) ≤ mostDigits
 unfolding whole
 whole-most b n = digits-most mostDigits b n

@@ -205,11 +205,15 @@ pub fn put_digits(out: &mut [u8], k: usize, n: u32, base: u32)
     }
 }
 
-// Writes all digits of n; returns how many.
+// Writes all digits of n; returns how many. Most numbers have one, and that needs no division.
 pub fn put_whole(out: &mut [u8], n: u32, base: u32) -> usize
     requires { ⌜ (2 ≤ base) × (base ≤ 16) × (length (whole base n) ≤ length (now out)) ⌝ }
     ensures { λ r. ⌜ (r ≡ length (whole base n)) × (now (out .exit) ≡ over (whole base n) (now (out .entry))) ⌝ }
 {
+    if n < base {
+        out[0] = digit_char(n);
+        return 1;
+    }
     let k = digit_count(n, base);
     put_digits(out, k, n, base);
     k

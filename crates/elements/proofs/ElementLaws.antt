@@ -1,12 +1,12 @@
 -- One element, decision by decision: each answer is the rule for the joined units that stand there.
 use Prim.Native.Nat.{ℕ, zero, suc, _+_, _-_, _/_, _≤_, _<_}
-use mathlib.Core.Path.{_≡_, refl, sym, _∙_}
+use mathlib.Core.Path.{_≡_, refl, sym, _∙_, subst}
 use mathlib.Core.Bool.{Bool, true, false, cond}
 use mathlib.Core.List.{List, [], _∷_}
 use mathlib.Core.Option.{some}
 use native.Mathlib.Omega.{arith}
 use native.Mathlib.Nat.{add-zero}
-use borrow.Author.Tests.{eq-eqb, ne-eqb, le-leb, lt-leb}
+use borrow.Author.Tests.{eq-eqb, ne-eqb, le-leb, lt-leb, eqb-true, eqb-false}
 use lib.Dec.{leb, eqb, eqb·suc-zero}
 use lib.ListN.{length}
 use Rattle.laws.specs.Cases.{byBool}
@@ -16,7 +16,7 @@ use Rattle.rules.specs.Refusals.{groupBroken}
 use Rattle.rules.specs.Units.{Radix, size, Unit}
 use Rattle.groups.specs.Joins.{joinsIn, kindAt, sepPlaceAt, unitAt, unitsFrom, innerAt, dashesAt, nextAt, sepKind, sepPlace, unitPlace, beginsKind}
 use Rattle.groups.specs.Answers.{endAnswer, endAt, bothEnds, stepEnd, elementAnswer, ArgEnd, NoMore}
-use Rattle.elements.specs.Shapes.{Increment, Upper, Ranged, Ordered, Later}
+use Rattle.elements.specs.Shapes.{Increment, Upper, Ranged, Ordered, Later, LastEnd, brokenPlace}
 use Rattle.groups.specs.declared.End.{End}
 use Rattle.groups.specs.declared.Ends.{Ends}
 use Rattle.groups.specs.declared.Ends.the-variants.{Both, Apart}
@@ -157,32 +157,76 @@ nil-length (i ∷ l) = sym (eqb·suc-zero (length l))
 
 -- an element behind `&-`, and one behind `&`
 module _ (b : ℕ) (cs ts : List ℕ) (n k : ℕ) where
-  pub short-bad : {p : ℕ} → sepKind ts n ≡ 2 → k ≡ 0 → p ≡ sepPlace ts n → Later (joinsIn b cs ts) k n (Refused groupBroken p)
-  short-bad {p} h z v l q =
+  short-bad : kindAt (joinsIn b cs ts) n ≡ 2 → k ≡ 0 → Later (joinsIn b cs ts) k n (Refused groupBroken (sepPlace ts n))
+  short-bad h z l q =
       let js = joinsIn b cs ts in
-      rw (eq-eqb (kindAt js n) 2 (kind-is b cs ts n ∙ h), later, nil-length l ∙ eq-eqb (length l) 0 (q ∙ z), sep-place-is b cs ts n, v)
+      rw (eq-eqb (kindAt js n) 2 h, later, nil-length l ∙ eq-eqb (length l) 0 (q ∙ z), sep-place-is b cs ts n)
 
-  pub short-yes : {x : Shape} → sepKind ts n ≡ 2 → (k ≡ 0 → ⊥) → Upper (joinsIn b cs ts) (n + 1) false x → Later (joinsIn b cs ts) k n x
-  short-yes {x} h z u l q =
+  short-yes : {s : Bool} {x : Shape} → kindAt (joinsIn b cs ts) n ≡ 2 → (k ≡ 0 → ⊥) → s ≡ eqb k 0 → Upper (joinsIn b cs ts) (n + 1) s x → Later (joinsIn b cs ts) k n x
+  short-yes {s} {x} h z v u l q =
       let js = joinsIn b cs ts in
-      let y : isNil l ≡ false = nil-length l ∙ ne-eqb (length l) 0 (λ w. z (sym q ∙ w)) in
+      let o = ne-eqb k 0 z in
+      let y : isNil l ≡ false = nil-length l ∙ rw q o in
       let e : n + 1 - 1 ≡ n = omega arith in
-      rw (eq-eqb (kindAt js n) 2 (kind-is b cs ts n ∙ h), later, y) (rw e at (u l y))
+      rw (eq-eqb (kindAt js n) 2 h, later, y) (rw e at (u l (y ∙ sym (v ∙ o))))
 
-  pub full-yes : {m : ℕ} {s : Bool} {x : Shape} → (sepKind ts n ≡ 2 → ⊥) → ArgEnd ts (n + 1) m → m - n - 1 ≡ k → s ≡ eqb k 0 → Upper (joinsIn b cs ts) m s x
+  full-yes : {s : Bool} {x : Shape} → (kindAt (joinsIn b cs ts) n ≡ 2 → ⊥) → dashesAt (joinsIn b cs ts) (n + 1) ≡ k → s ≡ eqb k 0 → Upper (joinsIn b cs ts) (n + 1 + k) s x
       → Later (joinsIn b cs ts) k n x
-  full-yes {m} {s} {x} h a e v u l q =
+  full-yes {s} {x} h g v u l q =
       let js = joinsIn b cs ts in
       let d = dashesAt js (n + 1) in
-      let w : m ≡ n + 1 + d = a b cs in
-      let g : k ≡ d = omega arith in
-      rw (ne-eqb (kindAt js n) 2 (λ c. h (sym (kind-is b cs ts n) ∙ c)), later, full-at js n, units-length d js n, eq-eqb d (length l) (omega arith), laterArg)
-      (arg-upper js n m s x w (v ∙ rw g) u)
+      rw (ne-eqb (kindAt js n) 2 h, later, full-at js n, units-length d js n, eq-eqb d (length l) (omega arith), laterArg)
+      (arg-upper js n (n + 1 + k) s x (omega arith) (v ∙ rw g) u)
 
-  pub full-bad : {m p : ℕ} → (sepKind ts n ≡ 2 → ⊥) → ArgEnd ts (n + 1) m → (m - n - 1 ≡ k → ⊥) → p ≡ unitPlace ts n → Later (joinsIn b cs ts) k n (Refused groupBroken p)
-  full-bad {m} {p} h a e v l q =
+  full-bad : (kindAt (joinsIn b cs ts) n ≡ 2 → ⊥) → (dashesAt (joinsIn b cs ts) (n + 1) ≡ k → ⊥) → Later (joinsIn b cs ts) k n (Refused groupBroken (unitPlace ts n))
+  full-bad h g l q =
       let js = joinsIn b cs ts in
       let d = dashesAt js (n + 1) in
-      let w : m ≡ n + 1 + d = a b cs in
-      let g : d ≡ length l → ⊥ = λ c. e (omega arith) in
-      rw (ne-eqb (kindAt js n) 2 (λ c. h (sym (kind-is b cs ts n) ∙ c)), later, full-at js n, units-length d js n, ne-eqb d (length l) g, laterArg, place-is b cs ts n, v)
+      let o : d ≡ length l → ⊥ = λ c. g (c ∙ q) in
+      rw (ne-eqb (kindAt js n) 2 h, later, full-at js n, units-length d js n, ne-eqb d (length l) o, laterArg, place-is b cs ts n)
+
+-- the unit behind the argument, by the tests of `last_end`
+module _ (ts : List ℕ) (n k : ℕ) {a : ℕ} (e : a ≡ sepKind ts n) where
+  pub end-none : a ≡ 2 → k ≡ 0 → LastEnd ts k n 0
+  end-none h z b cs = rw (kind-is b cs ts n, ← e, h, eq-eqb k 0 z)
+
+  pub end-short : a ≡ 2 → (k ≡ 0 → ⊥) → LastEnd ts k n (n + 1)
+  end-short h z b cs = rw (kind-is b cs ts n, ← e, h, ne-eqb k 0 z)
+
+  pub end-full : {m : ℕ} → (a ≡ 2 → ⊥) → ArgEnd ts (n + 1) m → m - n - 1 ≡ k → LastEnd ts k n m
+  end-full h g z b cs =
+      let d = dashesAt (joinsIn b cs ts) (n + 1) in
+      let w = g b cs in
+      rw (kind-is b cs ts n, ← e, ne-eqb a 2 h, eq-eqb d k (omega arith)) (omega arith)
+
+  pub end-other : {m : ℕ} → (a ≡ 2 → ⊥) → ArgEnd ts (n + 1) m → (m - n - 1 ≡ k → ⊥) → LastEnd ts k n 0
+  end-other h g z b cs =
+      let d = dashesAt (joinsIn b cs ts) (n + 1) in
+      let w = g b cs in
+      rw (kind-is b cs ts n, ← e, ne-eqb a 2 h, ne-eqb d k (λ c. z (omega arith)))
+
+-- the element by that: refused, or what follows its argument
+module _ (b : ℕ) (cs ts : List ℕ) (n k : ℕ) {m : ℕ} (a : LastEnd ts k n m) where
+  pub last-bad : {p : ℕ} → m ≡ 0 → p ≡ brokenPlace ts n → Later (joinsIn b cs ts) k n (Refused groupBroken p)
+  last-bad {p} z v l q =
+      let js = joinsIn b cs ts in let d = dashesAt js (n + 1) in
+      byBool (eqb (kindAt js n) 2)
+      (λ y. let w : p ≡ sepPlace ts n = v ∙ rw (← kind-is b cs ts n, y) in
+      byBool (eqb k 0)
+      (λ o. rw w (short-bad b cs ts n k (eqb-true (kindAt js n) 2 y) (eqb-true k 0 o) l q))
+      (λ o. let e : m ≡ n + 1 = a b cs ∙ rw (y, o) in absurd (omega arith)))
+      (λ y. let w : p ≡ unitPlace ts n = v ∙ rw (← kind-is b cs ts n, y) in
+      byBool (eqb d k)
+      (λ o. let e : m ≡ n + 1 + k = a b cs ∙ rw (y, o) in absurd (omega arith))
+      (λ o. rw w (full-bad b cs ts n k (eqb-false (kindAt js n) 2 y) (eqb-false d k o) l q)))
+
+  pub last-yes : {s : Bool} {x : Shape} → (m ≡ 0 → ⊥) → s ≡ eqb k 0 → Upper (joinsIn b cs ts) m s x → Later (joinsIn b cs ts) k n x
+  last-yes {s} {x} z v u =
+      let js = joinsIn b cs ts in let d = dashesAt js (n + 1) in
+      byBool (eqb (kindAt js n) 2)
+      (λ y. byBool (eqb k 0)
+      (λ o. absurd (z (a b cs ∙ rw (y, o))))
+      (λ o. let e : m ≡ n + 1 = a b cs ∙ rw (y, o) in short-yes b cs ts n k (eqb-true (kindAt js n) 2 y) (eqb-false k 0 o) v (subst (λ i. Upper js i s x) e u)))
+      (λ y. byBool (eqb d k)
+      (λ o. let e : m ≡ n + 1 + k = a b cs ∙ rw (y, o) in full-yes b cs ts n k (eqb-false (kindAt js n) 2 y) (eqb-true d k o) v (subst (λ i. Upper js i s x) e u))
+      (λ o. absurd (z (a b cs ∙ rw (y, o)))))

@@ -2,7 +2,7 @@
 use Prim.Native.Nat.{ℕ, suc, _+_, _-_, _*_, _≤_, _<_}
 use mathlib.Core.Path.{_≡_, refl, sym, _∙_, ap, ap₂, subst}
 use mathlib.Core.Bool.{true, false, false≢true}
-use mathlib.Core.List.{List, _∷_, map}
+use mathlib.Core.List.{List, [], _∷_, map}
 use native.Mathlib.Omega.{arith}
 use native.Mathlib.Nat.{add-zero}
 use native.Mathlib.Numerals.{add-one}
@@ -17,6 +17,7 @@ use Rattle.rules.specs.Refusals.{Res, ok, bad, mapR, groupBroken, tooMany}
 use Rattle.rules.specs.Tokens.{sepCode, amp-}
 use Rattle.rules.specs.Units.{Unit}
 use Rattle.rules.proofs.ResultLaws.{byRes}
+use Rattle.table.specs.Table.{kindIn}
 use Rattle.groups.specs.Joins.{joinsIn, kindAt, unitAt, unitsFrom, innerAt, groupsAt, dashesAt, nextAt, count, sepKind, sepPlace, beginsKind}
 use Rattle.groups.specs.Answers.{elementAnswer, ArgEnd}
 use Rattle.elements.specs.Shapes.{Later, groupAt}
@@ -92,6 +93,17 @@ module _ (b : ℕ) (cs ts : List ℕ) where
       byBool (ltb 0 (count ts))
       (λ y. rw (all-groups (ltb-true 0 (count ts) y), full-at js 0, units-length d js 0, lt-leb d 3 h, firstArg, inner-sep 3 js 1 h, sep-place-is b cs ts 4))
       (λ y. let z : d ≡ 0 = dash-end js 1 (λ e. absurd (omega (arith, dash-inside js 1 e, joins-length b cs ts, ltb-false 0 (count ts) y))) in absurd (omega arith))
+
+-- ---- a value of one unit is one element
+
+pub one-element : (b : ℕ) (cs ts : List ℕ) → length ts ≡ 1 → elements (groupsOf (collect (joinsIn b cs ts))) ≡ ok (single [] (unitAt (joinsIn b cs ts) 0) ∷ [])
+unfolding joinsIn unitAt kindIn
+one-element b cs [] h = absurd (omega arith)
+one-element b cs (t ∷ []) h = refl
+one-element b cs (t ∷ u ∷ ts) h = absurd (omega arith)
+
+pub one-answer : (b : ℕ) (cs ts : List ℕ) → length ts ≡ 1 → Elements 1 1 ≡ valueAnswer (elements (groupsOf (collect (joinsIn b cs ts))))
+one-answer b cs ts h = rw (one-element b cs ts h)
 
 -- ---- a step's answer and the rules' element
 

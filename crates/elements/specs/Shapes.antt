@@ -3,14 +3,14 @@ use Prim.Native.Nat.{ℕ, _+_, _-_}
 use mathlib.Core.Path.{_≡_}
 use mathlib.Core.Bool.{Bool, cond}
 use mathlib.Core.List.{List}
-use lib.Dec.{leb}
+use lib.Dec.{leb, eqb}
 use lib.ListN.{length}
 use Rattle.laws.specs.Lists.{isNil}
 use Rattle.rules.specs.Groups.{Join, Group, group, increment, upper, later}
 use Rattle.rules.specs.Refusals.{bad, groupBroken}
-use Rattle.rules.specs.Tokens.{ampamp, ampamp-, sepCode}
+use Rattle.rules.specs.Tokens.{ampamp, ampamp-, amp-, sepCode}
 use Rattle.rules.specs.Units.{Radix, size, Unit}
-use Rattle.groups.specs.Joins.{sepAt, kindAt, sepPlaceAt, placeAt, unitAt, innerAt, nextAt}
+use Rattle.groups.specs.Joins.{joinsIn, sepAt, kindAt, sepPlaceAt, placeAt, unitAt, innerAt, dashesAt, nextAt, sepKind, sepPlace, unitPlace}
 use Rattle.groups.specs.Answers.{elementAnswer}
 use Rattle.groups.specs.declared.Shape.{Shape}
 
@@ -39,3 +39,15 @@ groupAt js n = group (sepAt js n) (sepPlaceAt js n) (placeAt js n) (unitAt js n)
 -- the rule `later`, whatever the k leading units of the element before are
 abbrev pub Later : List (Join Unit) → ℕ → ℕ → Shape → Type 0
 Later js k n e = (l : List Unit) → length l ≡ k → e ≡ elementAnswer (nextAt js (n + 1)) (later l (groupAt js n))
+
+-- the unit behind the argument that it begins with: behind `&-` that is one unit, else as many as are joined by `-`; 0 where its leading units are not k
+abbrev pub lastEnd : List (Join Unit) → ℕ → ℕ → ℕ
+lastEnd js k n = cond (eqb (kindAt js n) (sepCode amp-)) (cond (eqb k 0) 0 (n + 1)) (cond (eqb (dashesAt js (n + 1)) k) (n + 1 + k) 0)
+
+-- the same, whatever the base and the contents
+abbrev pub LastEnd : List ℕ → ℕ → ℕ → ℕ → Type 0
+LastEnd ts k n e = (b : ℕ) (cs : List ℕ) → e ≡ lastEnd (joinsIn b cs ts) k n
+
+-- the place of an element whose leading units are not k: that of its `&-`, else of its first unit
+abbrev pub brokenPlace : List ℕ → ℕ → ℕ
+brokenPlace ts n = cond (eqb (sepKind ts n) (sepCode amp-)) (sepPlace ts n) (unitPlace ts n)

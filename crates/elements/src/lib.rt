@@ -6,9 +6,9 @@ ghost use mathlib.Core.Path.{_≡_};
 ghost use mathlib.Core.Bool.{false, cond};
 ghost use Prim.Native.Nat.{_≤_, _<_};
 ghost use Rattle.rules.specs.Groups.{elements, groupsOf, collect};
-ghost use Rattle.rules.specs.Tokens.{sepCode, ampamp, ampamp-, amp-, plusplus};
+ghost use Rattle.rules.specs.Tokens.{sepCode, ampamp, ampamp-, plusplus};
 ghost use Rattle.groups.specs.Joins.{joinsIn, count, sepKind, beginsKind};
-ghost use Rattle.elements.specs.Shapes.{Increment, Ordered, Ranged, Upper, Later};
+ghost use Rattle.elements.specs.Shapes.{Increment, Ordered, Ranged, Upper, Later, LastEnd, brokenPlace};
 ghost use Rattle.elements.specs.Walk.{stepOf, valueAnswer};
 
 // A compound argument has at most 4 units: so many before the last.
@@ -154,33 +154,32 @@ fn upper_end(toks: &[u64], contents: &[u8], base: u8, n: usize, simple: bool) ->
     }
 }
 
-// An element behind `&-`, which takes over the `leads` leading units of the element before.
-fn short(toks: &[u64], contents: &[u8], base: u8, n: usize, leads: usize) -> Shape
-    requires { ⌜ (n < count (now toks)) × (sepKind (now toks) n ≡ sepCode amp-) ⌝ }
-    ensures { λ r. ⌜ Later (joinsIn base (now (contents .entry)) (now (toks .entry))) leads n r ⌝ }
+// The unit behind the argument that the element at the n-th unit begins with; 0 where its leading units are not `leads`.
+fn last_end(toks: &[u64], n: usize, leads: usize) -> usize
+    requires { ⌜ n < count (now toks) ⌝ }
+    ensures { λ r. ⌜ LastEnd (now (toks .entry)) leads n r ⌝ }
 {
-    if leads == 0 {
-        return Shape::Refused {
-            no: groups::GROUP_BROKEN,
-            place: groups::sep_place(toks, n),
-        };
+    if groups::sep_kind(toks, n) == groups::AMP_DASH {
+        if leads == 0 {
+            return 0;
+        }
+        return n + 1;
     }
-    upper_end(toks, contents, base, n + 1, false)
-}
-
-// An element behind `&`, an argument in full of as many units as the element before.
-fn full(toks: &[u64], contents: &[u8], base: u8, n: usize, leads: usize) -> Shape
-    requires { ⌜ (n < count (now toks)) × (sepKind (now toks) n ≡ sepCode amp- → ⊥) ⌝ }
-    ensures { λ r. ⌜ Later (joinsIn base (now (contents .entry)) (now (toks .entry))) leads n r ⌝ }
-{
     let k = groups::arg_end(toks, n + 1);
     if k - n - 1 == leads {
-        return upper_end(toks, contents, base, k, leads == 0);
+        return k;
     }
-    Shape::Refused {
-        no: groups::GROUP_BROKEN,
-        place: groups::unit_place(toks, n),
+    0
+}
+
+// The place of an element whose leading units are too many or too few: that of its `&-`, else of its first unit.
+fn broken_place(toks: &[u64], n: usize) -> u32
+    ensures { λ r. ⌜ r ≡ brokenPlace (now (toks .entry)) n ⌝ }
+{
+    if groups::sep_kind(toks, n) == groups::AMP_DASH {
+        return groups::sep_place(toks, n);
     }
+    groups::unit_place(toks, n)
 }
 
 // The element that begins at the n-th unit, in a value whose arguments have `leads` leading units.
@@ -188,10 +187,14 @@ pub fn later(toks: &[u64], contents: &[u8], base: u8, n: usize, leads: usize) ->
     requires { ⌜ n < count (now toks) ⌝ }
     ensures { λ r. ⌜ Later (joinsIn base (now (contents .entry)) (now (toks .entry))) leads n r ⌝ }
 {
-    if groups::sep_kind(toks, n) == groups::AMP_DASH {
-        return short(toks, contents, base, n, leads);
+    let k = last_end(toks, n, leads);
+    if k == 0 {
+        return Shape::Refused {
+            no: groups::GROUP_BROKEN,
+            place: broken_place(toks, n),
+        };
     }
-    full(toks, contents, base, n, leads)
+    upper_end(toks, contents, base, k, leads == 0)
 }
 
 // An element as a step of the walk.
@@ -228,8 +231,8 @@ pub fn outcome(e: Shape) -> Step
     }
 }
 
-// 14 and 15: the elements of a value and their arguments, in one walk. The first element is one in full that sets the number of units.
-pub fn elements(toks: &[u64], contents: &[u8], base: u8) -> Value
+// The elements of a value and their arguments, in one walk. The first element is one in full that sets the number of units.
+fn all_elements(toks: &[u64], contents: &[u8], base: u8) -> Value
     ensures { λ r. ⌜ r ≡ valueAnswer (elements (groupsOf (collect (joinsIn base (now (contents .entry)) (now (toks .entry)))))) ⌝ }
 {
     let leads = groups::arg_end(toks, 1) - 1;
@@ -265,4 +268,14 @@ pub fn elements(toks: &[u64], contents: &[u8], base: u8) -> Value
         count: c,
         args: args,
     }
+}
+
+// 14 and 15: the elements of a value and their arguments; a value of one unit is answered at once.
+pub fn elements(toks: &[u64], contents: &[u8], base: u8) -> Value
+    ensures { λ r. ⌜ r ≡ valueAnswer (elements (groupsOf (collect (joinsIn base (now (contents .entry)) (now (toks .entry)))))) ⌝ }
+{
+    if toks.len() == 1 {
+        return Value::Elements { count: 1, args: 1 };
+    }
+    all_elements(toks, contents, base)
 }

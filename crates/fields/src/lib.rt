@@ -29,7 +29,7 @@ pub const HEADER: usize = 3;
 pub const NUMERAL_CONTENT: u8 = 6;
 
 // The bytes of a numeral's field.
-const NUMERAL_FIELD: usize = 9;
+pub const NUMERAL_FIELD: usize = 9;
 
 // What the second byte from the end of a number counts.
 const SECOND: u32 = 256;

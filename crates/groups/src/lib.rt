@@ -54,7 +54,7 @@ pub enum Shape {
 pub fn count(toks: &[u64]) -> usize
     ensures { λ r. ⌜ r ≡ countOf (now (toks .entry)) ⌝ }
 {
-    toks.len() / 2 + toks.len() % 2
+    (toks.len() + 1) / 2
 }
 
 // The kind of a joining separator; an `&` for what is none.

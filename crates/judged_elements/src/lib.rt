@@ -8,6 +8,24 @@ ghost use Rattle.walk.specs.Fronts.{tagOf};
 ghost use Rattle.judged_elements.specs.Elements.{isElement, joins, moreOf};
 ghost use Rattle.judged_elements.specs.Judging.{IsUnits, IsElement, IsValue};
 
+// The tag of a single element.
+const SINGLE: u8 = 5;
+
+// The tag of a range element.
+const RANGE: u8 = 6;
+
+// The tag of the first kind of unit.
+const FIRST_UNIT: u8 = 7;
+
+// The most units of an argument.
+const MOST_UNITS: usize = 4;
+
+// The most elements of a value.
+const MOST_ELEMENTS: usize = 64;
+
+// The most arguments of a value.
+const MOST_ARGUMENTS: u32 = 4096;
+
 // The units of an element: how many, whether the last is a numeral without fraction, and which; where the next field begins.
 pub enum Units {
     Are {
@@ -46,10 +64,10 @@ pub fn judge_units(part: &[u8], base: u8) -> Units
     ensures { λ r. ⌜ IsUnits (baseAt base) (now (part .entry)) r ⌝ }
 {
     let mut at = 0;
-    let mut left = 4;
+    let mut left = MOST_UNITS;
     let mut whole = false;
     let mut lower = 0;
-    while 7 <= walk::tag_at(part, at) {
+    while FIRST_UNIT <= walk::tag_at(part, at) {
         if left == 0 {
             return Units::Bad;
         }
@@ -74,7 +92,7 @@ pub fn judge_units(part: &[u8], base: u8) -> Units
         }
     }
     Units::Are {
-        count: 4 - left,
+        count: MOST_UNITS - left,
         whole: whole,
         lower: lower,
         next: at,
@@ -101,7 +119,7 @@ pub fn range_terms(ends: &[u8], lower: u32) -> Terms
 pub fn is_element(tag: u8) -> bool
     ensures { λ r. ⌜ r ≡ isElement tag ⌝ }
 {
-    tag == 5 || tag == 6
+    tag == SINGLE || tag == RANGE
 }
 
 // The element that stands at a position: its field, and its units from behind the field on.
@@ -128,7 +146,7 @@ pub fn judge_element(rec: &[u8], at: usize, base: u8) -> OneElement
     else {
         return OneElement::Bad;
     };
-    if tag == 5 {
+    if tag == SINGLE {
         if count == 0 {
             return OneElement::Bad;
         }
@@ -155,7 +173,7 @@ pub fn joins(units: usize, arguments: u32, count: usize, more: u32) -> bool
     requires { ⌜ arguments ≤ 4096 ⌝ }
     ensures { λ r. ⌜ r ≡ joins units arguments count (more + 1) ⌝ }
 {
-    if 4096 - arguments <= more {
+    if MOST_ARGUMENTS - arguments <= more {
         return false;
     }
     units == 0 || units == count
@@ -167,7 +185,7 @@ pub fn judge_value(rec: &[u8], from: usize, base: u8) -> Arguments
     ensures { λ r. ⌜ IsValue (baseAt base) (now (rec .entry)) from r ⌝ }
 {
     let mut at = from;
-    let mut left = 64usize;
+    let mut left = MOST_ELEMENTS;
     let mut units = 0;
     let mut arguments = 0;
     while is_element(walk::tag_at(rec, at)) {

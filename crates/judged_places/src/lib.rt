@@ -8,8 +8,10 @@ ghost use Rattle.judged_places.specs.Places.{mayBePiece, isBase, kindAgr
 ghost use Rattle.judged_places.specs.Judging.{IsPieces, IsParts, IsPlace};
 
 // The tag of a name piece.
-
 const NAME: u8 = 4;
+
+// The most pieces of a name.
+const MOST_PIECES: usize = 4;
 
 // Pieces: how many, and where the next field begins.
 pub enum Pieces {
@@ -120,7 +122,7 @@ pub fn judge_parts(rec: &[u8], from: usize, base: u8, named: bool) -> OnePlace
     let Pieces::Are {
         count,
         next: behind,
-    } = judge_pieces(rec, from, NAME, 4, true)
+    } = judge_pieces(rec, from, NAME, MOST_PIECES, true)
     else {
         return OnePlace::Bad;
     };

@@ -20,7 +20,7 @@ use Rattle.elements.proofs.EachLaws.{Between}
 use Rattle.values.specs.Passes.{Faultless}
 use Rattle.measure.specs.Measure.{bytesAt, bytesFrom, headBytes, elementBytes, ValueLen}
 use Rattle.measure.proofs.BytesLaws.{bytes-word, bytes-string, unit-small, units-small}
-use Rattle.measure.proofs.TurnLaws.{valueBytes, value-snoc, Met, met-none, met-all}
+use Rattle.measure.proofs.TurnLaws.{valueBytes, value-snoc, one-bytes, Met, met-none, met-all}
 
 -- ---- a unit
 
@@ -63,6 +63,10 @@ module _ (l : ℕ) (cs ts : List ℕ) (x : Shape) (f k m : ℕ) where
   element-small h = omega (arith, element-len, head-small x, units-small k l cs ts f, unit-small l cs ts m)
 
 -- ---- the elements
+
+-- a value of one unit
+pub one-len : (l : ℕ) (cs ts : List ℕ) {r : ℕ} → length ts ≡ 1 → r ≡ length (bytesAt l cs ts 0) → ValueLen ts cs l (3 + r)
+one-len l cs ts h q b e es own g = rw (one-bytes l cs ts h b e es own g, q) (omega arith)
 
 pub record Measuring (l : ℕ) (cs ts : List ℕ) (k n f total : ℕ) : Type 0 where
   pub done : List Element

@@ -6,27 +6,28 @@ use mathlib.Core.List.{List, [], _∷_, _++_, append-assoc, append-nil}
 use native.Mathlib.Omega.{arith}
 use lib.Dec.{eqb}
 use lib.ListN.{length}
-use Rattle.rules.specs.Commands.{Element}
+use Rattle.rules.specs.Commands.{Element, single}
 use Rattle.rules.specs.Groups.{readValue}
-use Rattle.rules.specs.Records.{bytesOf, elementFields, many}
+use Rattle.rules.specs.Records.{field, fieldBytes, bytesOf, elementFields, many}
 use Rattle.rules.specs.Refusals.{ok}
 use Rattle.rules.specs.Tokens.{sepCode, amp-}
 use Rattle.rules.specs.Units.{Base, letter}
 use Rattle.rules.proofs.ResultLaws.{ok-inj}
 use Rattle.table.specs.Table.{tokensIn}
-use Rattle.groups.specs.Joins.{joinsIn, kindAt, nextAt, count, sepKind}
+use Rattle.groups.specs.Joins.{joinsIn, kindAt, unitAt, nextAt, count, sepKind}
 use Rattle.groups.specs.Answers.{ArgEnd}
 use Rattle.elements.specs.Shapes.{Later}
 use Rattle.groups.specs.declared.Shape.{Shape}
+use Rattle.groups.specs.declared.Shape.the-variants.{Single}
 use Rattle.groups.proofs.JoinLaws.{joins-length, kind-is}
 use Rattle.elements.specs.Walk.{stepOf}
 use Rattle.elements.specs.declared.Step.{Step}
-use Rattle.elements.proofs.WalkLaws.{next-of, next-from}
+use Rattle.elements.proofs.WalkLaws.{one-element, next-of, next-from}
 use Rattle.elements.proofs.StandLaws.{frontAt, lastAt}
 use Rattle.elements.proofs.EachLaws.{Between, between-none, between-end, turn, turn-answer}
 use Rattle.values.specs.Passes.{Faultless}
 use Rattle.values.proofs.FaultlessLaws.{sound}
-use Rattle.measure.specs.Measure.{elementBytes}
+use Rattle.measure.specs.Measure.{bytesAt, bytesFrom, elementBytes}
 use Rattle.measure.proofs.BytesLaws.{bytes-append, element-is}
 
 -- ---- the bytes of elements
@@ -56,6 +57,16 @@ pub record Met (l : ℕ) (cs ts : List ℕ) (k : ℕ) (done : List Element) (n :
   pub last : la < count ts
 
 module _ (l : ℕ) (cs ts : List ℕ) where
+  -- the only element of a value of one unit
+  pub one-bytes : length ts ≡ 1 → (b : Base) (e : ℕ) (es : List Element) → l ≡ letter b → readValue b (tokensIn cs ts) e ≡ ok es
+      → valueBytes es ≡ fieldBytes (field 5 []) ++ bytesAt l cs ts 0
+  unfolding elementBytes bytesFrom
+  one-bytes h b e es own g =
+      let s = sound b ts cs e es g in
+      let x = single [] (unitAt (joinsIn l cs ts) 0) in
+      let z : es ≡ x ∷ [] = ok-inj (sym (rw own (s .groups)) ∙ one-element l cs ts h) in
+      rw z (value-snoc [] x ∙ sym (element-is b l own ts cs es s (Single 0) x 0 0 0 0 refl refl refl (omega arith) (omega arith)))
+
   pub met-none : (v : Faultless ts cs l) {q : ℕ} → ArgEnd ts 1 q → Between (joinsIn l cs ts) (q - 1) [] 0 0
   met-none v a =
       let s = sound (v .base) ts cs (v .end) (v .es) (v .is) in

@@ -106,8 +106,8 @@ pub fn last_of(kind: u8, n: usize, leads: usize) -> usize
     n + leads
 }
 
-// How many bytes the value takes.
-pub fn value_len(toks: &[u64], contents: &[u8], base: u8) -> usize
+// How many bytes the value takes, element by element.
+fn elements_len(toks: &[u64], contents: &[u8], base: u8) -> usize
     requires { ⌜ Faultless (now toks) (now contents) base ⌝ }
     ensures { λ r. ⌜ ValueLen (now (toks .entry)) (now (contents .entry)) base r ⌝ }
 {
@@ -132,4 +132,15 @@ pub fn value_len(toks: &[u64], contents: &[u8], base: u8) -> usize
         n = s.next;
     }
     total
+}
+
+// How many bytes the value takes; a value of one unit is measured at once.
+pub fn value_len(toks: &[u64], contents: &[u8], base: u8) -> usize
+    requires { ⌜ Faultless (now toks) (now contents) base ⌝ }
+    ensures { λ r. ⌜ ValueLen (now (toks .entry)) (now (contents .entry)) base r ⌝ }
+{
+    if toks.len() == 1 {
+        return FIELD_HEAD + unit_len(toks, contents, base, 0);
+    }
+    elements_len(toks, contents, base)
 }

@@ -1,6 +1,6 @@
 // Order k of a record by the direct rule: each place's position, from the last place back; the length; the bytes.
 ghost use mathlib.Core.Path.{_≡_};
-ghost use Prim.Native.Nat.{ℕ, _+_, _≤_, _<_};
+ghost use Prim.Native.Nat.{ℕ, _+_, _/_, _%_, _≤_, _<_};
 ghost use lib.ListN.{length, getD};
 ghost use Rattle.laws.specs.Over.{over};
 ghost use Rattle.rules.specs.Refusals.{ok};
@@ -37,6 +37,28 @@ pub struct Stretch {
     pub next: usize,
 }
 
+// What is left over of k by a number of arguments; most places have one, and that needs no division.
+fn remainder(k: u32, number: u32) -> u32
+    requires { ⌜ 0 < number ⌝ }
+    ensures { λ r. ⌜ r ≡ k % number ⌝ }
+{
+    if number == 1 {
+        return 0;
+    }
+    k % number
+}
+
+// How often a number of arguments goes into k.
+fn quotient(k: u32, number: u32) -> u32
+    requires { ⌜ 0 < number ⌝ }
+    ensures { λ r. ⌜ r ≡ k / number ⌝ }
+{
+    if number == 1 {
+        return k;
+    }
+    k / number
+}
+
 // Each place's position, where its number of arguments stood: from the last place back the remainder, and the quotient goes on.
 pub fn positions(counts: &mut [u32], k: u32)
     requires { ⌜ ((i : ℕ) → i < length (now counts) → 0 < getD (now counts) i 0) ⌝ }
@@ -47,8 +69,8 @@ pub fn positions(counts: &mut [u32], k: u32)
     while 0 < i {
         i -= 1;
         let number = counts[i];
-        counts[i] = left % number;
-        left = left / number;
+        counts[i] = remainder(left, number);
+        left = quotient(left, number);
     }
 }
 

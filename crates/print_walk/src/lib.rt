@@ -142,7 +142,7 @@ fn code_link(c: Cursor, rec: &[u8]) -> Step
     let end = leads::field_end(rec, at);
     let separator = code_separator(c.before);
     Step {
-        link: plain(separator, CODE, at + 3, end, c.base),
+        link: plain(separator, CODE, at + fields::HEADER, end, c.base),
         next: moved(c, end, CODE),
     }
 }
@@ -173,7 +173,7 @@ fn place_link(c: Cursor, rec: &[u8]) -> Step
         next: Cursor {
             at: end,
             before: PLACE,
-            base: rec[at + 3],
+            base: rec[at + fields::HEADER],
             lead: c.lead,
             until: c.until,
             upper: c.upper,
@@ -191,7 +191,7 @@ fn name_link(c: Cursor, rec: &[u8]) -> Step
     let end = leads::field_end(rec, at);
     let separator = name_separator(c.before);
     Step {
-        link: plain(separator, NAME, at + 3, end, c.base),
+        link: plain(separator, NAME, at + fields::HEADER, end, c.base),
         next: moved(c, end, NAME),
     }
 }
@@ -207,7 +207,7 @@ fn unit_link(c: Cursor, rec: &[u8], separator: Separator) -> Step
     let next = moved(c, end, tag);
     if leads::unit_at(rec, end) {
         return Step {
-            link: plain(separator, tag, at + 3, end, c.base),
+            link: plain(separator, tag, at + fields::HEADER, end, c.base),
             next: next,
         };
     }
@@ -215,7 +215,7 @@ fn unit_link(c: Cursor, rec: &[u8], separator: Separator) -> Step
         link: Link {
             separator: separator,
             tag: tag,
-            start: at + 3,
+            start: at + fields::HEADER,
             end: end,
             base: c.base,
             compound: c.lead < c.until,
@@ -235,7 +235,7 @@ fn element_link(c: Cursor, rec: &[u8]) -> Step
     let tag = rec[at];
     let lead = c.lead;
     let until = c.until;
-    let start = at + 3;
+    let start = at + fields::HEADER;
     let from = leads::field_end(rec, at);
     let last = leads::last_unit(rec, from);
     let short = leads::short_form(c.before, &rec[lead..until], &rec[from..last]);
@@ -262,8 +262,7 @@ pub fn advance(c: Cursor, rec: &[u8]) -> Step
         2 => block_link(c, rec),
         3 => place_link(c, rec),
         4 => name_link(c, rec),
-        5 => element_link(c, rec),
-        6 => element_link(c, rec),
+        5..=6 => element_link(c, rec),
         _ => unit_link(c, rec, unit_separator(c.before)),
     }
 }

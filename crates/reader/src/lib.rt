@@ -19,6 +19,8 @@ ghost use Rattle.reader.specs.Reader.{TokensOf, Records, RecordsText};
 
 // Texts of at most so many bytes are read through short tables.
 const SHORT: usize = 128;
+// Texts of at most so many bytes are read through middle tables.
+const MIDDLE: usize = 512;
 // "over 1,024 bytes"
 const MOST_TEXT: usize = 1024;
 
@@ -93,6 +95,16 @@ fn read_short(text: &[u8], classes: &[u8; 128], bases: &[u8], out: &mut [u8]) ->
     with_tables(text, classes, bases, &mut toks, &mut contents, out)
 }
 
+// A text of middle length into its record.
+fn read_middle(text: &[u8], classes: &[u8; 128], bases: &[u8], out: &mut [u8]) -> Answer
+    requires { ⌜ (now classes ≡ table) × (length (now text) ≤ 512) ⌝ }
+    ensures { λ r. ⌜ RecordsText (now (text .entry)) (now (bases .entry)) (now (out .entry)) r (now (out .exit)) ⌝ }
+{
+    let mut toks = [0u64; 512];
+    let mut contents = [0u8; 512];
+    with_tables(text, classes, bases, &mut toks, &mut contents, out)
+}
+
 // A long text into its record.
 fn read_long(text: &[u8], classes: &[u8; 128], bases: &[u8], out: &mut [u8]) -> Answer
     requires { ⌜ (now classes ≡ table) × (length (now text) ≤ mostText) ⌝ }
@@ -113,6 +125,9 @@ fn read_text(text: &[u8], bases: &[u8], out: &mut [u8]) -> Answer
     let classes = chars::CLASSES;
     if text.len() <= SHORT {
         return read_short(text, &classes, bases, out);
+    }
+    if text.len() <= MIDDLE {
+        return read_middle(text, &classes, bases, out);
     }
     read_long(text, &classes, bases, out)
 }

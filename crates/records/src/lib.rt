@@ -14,6 +14,21 @@ const BLOCK: u8 = 2;
 
 const PLACE: u8 = 3;
 
+// The most pieces of a code.
+const MOST_PIECES: usize = 3;
+
+// The most blocks of a command.
+const MOST_BLOCKS: usize = 8;
+
+// The most places of a command.
+const MOST_PLACES: usize = 32;
+
+// The most orders of a command.
+const MOST_ORDERS: u32 = 65535;
+
+// The refusal of a record that is not well formed.
+const NOT_WELL_FORMED: u8 = 18;
+
 // Places: how many with those before, the orders with those before, and where the next field begins.
 pub enum Places {
     Are {
@@ -46,7 +61,7 @@ pub fn judge_places(
     let mut places = number;
     let mut total = orders;
     while walk::tag_at(rec, at) == PLACE {
-        if places == 32 {
+        if places == MOST_PLACES {
             return Places::Bad;
         }
         let judged_places::OnePlace::Is { count, next } = judged_places::judge_place(rec, at, named)
@@ -54,7 +69,7 @@ pub fn judge_places(
             return Places::Bad;
         };
         total = total * count;
-        if 65535 < total {
+        if MOST_ORDERS < total {
             return Places::Bad;
         }
         counts[places] = count;
@@ -112,7 +127,7 @@ pub fn judge_blocks(rec: &[u8], from: usize, counts: &mut [u32; 32]) -> Judged
     ensures { λ r. ⌜ IsBlocks (now (rec .entry)) from (now (counts .exit)) r ⌝ }
 {
     let mut at = from;
-    let mut left = 8usize;
+    let mut left = MOST_BLOCKS;
     let mut places = 0usize;
     let mut total = 1u32;
     while walk::tag_at(rec, at) == BLOCK {
@@ -150,7 +165,7 @@ pub fn judge(rec: &[u8], counts: &mut [u32; 32]) -> Judged
         rec,
         0,
         CODE,
-        3,
+        MOST_PIECES,
         false,
     ) else {
         return Judged::Bad;
@@ -168,6 +183,6 @@ pub fn count(rec: &[u8]) -> rules::Answer
     let mut counts = [0u32; 32];
     match judge(rec, &mut counts) {
         Judged::Good { places: _, total } => rules::Answer::Done(total),
-        Judged::Bad => rules::Answer::Refused(18, 0),
+        Judged::Bad => rules::Answer::Refused(NOT_WELL_FORMED, 0),
     }
 }

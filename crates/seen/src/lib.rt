@@ -2,6 +2,7 @@
 ghost use mathlib.Core.Path.{_≡_};
 ghost use mathlib.Core.Bool.{true, false};
 ghost use Prim.Native.Nat.{ℕ};
+ghost use lib.ListN.{getD};
 ghost use Rattle.laws.specs.Lists.{allAt};
 ghost use Rattle.rules.specs.Characters.{isPermitted, isWordChar};
 ghost use Rattle.rules.specs.Units.{numeral, keyed, identifier, symbolic, text, baseAt, radixAt};
@@ -238,12 +239,36 @@ pub fn field_seen(tag: u8, word: &[u8], base: u8, next: usize) -> Seen
     Seen::Bad
 }
 
+// A numeral's field at the start of a part of a record: nine bytes, whatever they are.
+fn numeral_field(rec: &[u8], base: u8) -> Seen
+    requires { ⌜ getD (now rec) 0 0 ≡ 7 ⌝ }
+    ensures { λ r. ⌜ r ≡ unitSeen base (now (rec .entry)) ⌝ }
+{
+    if rec.len() < fields::NUMERAL_FIELD {
+        return Seen::Bad;
+    }
+    if rec[1] != 0 {
+        return Seen::Bad;
+    }
+    if rec[2] != fields::NUMERAL_CONTENT {
+        return Seen::Bad;
+    }
+    numeral_seen(
+        &rec[fields::HEADER..fields::NUMERAL_FIELD],
+        base,
+        fields::NUMERAL_FIELD,
+    )
+}
+
 // The field at the start of a part of a record, under the base of its place's letter.
 pub fn unit_field(rec: &[u8], base: u8) -> Seen
     ensures { λ r. ⌜ r ≡ unitSeen base (now (rec .entry)) ⌝ }
 {
     if rec.len() < fields::HEADER {
         return Seen::Bad;
+    }
+    if rec[0] == fields::NUMERAL {
+        return numeral_field(rec, base);
     }
     let next = fields::field_end(rec[1], rec[2]);
     if rec.len() < next {

@@ -81,6 +81,11 @@ short [] h = refl
 short (c ∷ []) h = refl
 short (c ∷ d ∷ cs) h = absurd (omega arith)
 
+pub long : (w : List ℕ) → eqb (getD w 1 0) (byte "'") ≡ true → 2 ≤ length w
+long [] h = absurd (false≢true h)
+long (c ∷ []) h = absurd (false≢true h)
+long (c ∷ d ∷ cs) h = omega arith
+
 -- ---- a word with a mark that is no prefix is none of the kinds
 
 -- whatever has a mark is not all of a class that has none
@@ -178,7 +183,7 @@ numeral-of l k w =
     (λ y. rw y (byBool (runOf isKey (drop k w)) (λ z. rw z refl) (λ z. rw z tt)))
     (λ y. rw y (plain-of l k w (radixAt l) refl))
 
-sized-name : (w : List ℕ) (l f v : ℕ) → orName w (sized l f v) ≡ sized l f v
+pub sized-name : (w : List ℕ) (l f v : ℕ) → orName w (sized l f v) ≡ sized l f v
 unfolding orName sized
 sized-name w l f v =
     byBool (leb v mostValue)

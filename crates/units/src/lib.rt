@@ -1,9 +1,10 @@
 // One word under its place's base: a numeral, a keyed numeral, an identifier or a symbolic name, or why it is none (12, 13).
 ghost use mathlib.Core.Path.{_≡_};
 ghost use Prim.Native.Nat.{ℕ, _<_, _≤_};
-ghost use lib.ListN.{length, drop};
+ghost use lib.ListN.{length, getD, drop};
+ghost use lib.Dec.{eqb};
 ghost use Rattle.laws.specs.Lists.{allAt};
-ghost use Rattle.rules.specs.Characters.{isDigit, isAlnum, isSymbolChar};
+ghost use Rattle.rules.specs.Characters.{byte, isDigit, isAlnum, isSymbolChar};
 ghost use Rattle.rules.specs.Units.{isKey, isIdentifier, isSymbolicName, numeral, baseAt};
 ghost use Rattle.units.specs.Words.{sized, ofNumeral, fractionUnit, plainUnit, nameUnit, orName, mayStand, prefixUnit, unitUnder};
 
@@ -191,11 +192,34 @@ fn name_unit(word: &[u8]) -> Word
     Word::Unreadable
 }
 
+// Whether the word starts with a decimal digit.
+fn starts_decimal(word: &[u8]) -> bool
+    ensures { λ r. ⌜ r ≡ isDigit (getD (now (word .entry)) 0 0) ⌝ }
+{
+    if word.len() == 0 {
+        return false;
+    }
+    digits::is_digit(word[0])
+}
+
+// Rule 2: a numeral of its place's base. Under D a word without a digit at its start is none, and needs no reading.
+fn base_unit(word: &[u8], base: u8) -> Word
+    ensures { λ r. ⌜ r ≡ ofNumeral base 0 (numeral (baseAt base) (now (word .entry))) ⌝ }
+{
+    if base == b'D' {
+        if starts_decimal(word) {
+            return numeral_unit(word, 0, b'D');
+        }
+        return Word::Unreadable;
+    }
+    numeral_unit(word, 0, base)
+}
+
 // Rules 2 to 5: a word without prefix.
 fn bare_unit(word: &[u8], base: u8) -> Word
     ensures { λ r. ⌜ r ≡ orName (now (word .entry)) (ofNumeral base 0 (numeral (baseAt base) (now (word .entry)))) ⌝ }
 {
-    match numeral_unit(word, 0, base) {
+    match base_unit(word, base) {
         Word::Unreadable => name_unit(word),
         other => other,
     }
@@ -226,15 +250,39 @@ fn prefix_unit(word: &[u8], base: u8) -> Word
     Word::Unreadable
 }
 
-// What the word is under the base of its place's letter.
-pub fn read_word(word: &[u8], base: u8) -> Word
-    ensures { λ r. ⌜ r ≡ unitUnder base (now (word .entry)) ⌝ }
+// Whether the word's second character is the mark.
+fn is_prefixed(word: &[u8]) -> bool
+    ensures { λ r. ⌜ r ≡ eqb (getD (now (word .entry)) 1 0) (byte "'") ⌝ }
 {
     if word.len() < digits::PREFIX {
-        return bare_unit(word, base);
+        return false;
     }
-    if word[1] == b'\'' {
+    word[1] == b'\''
+}
+
+// Rules 1 to 5: any word.
+fn any_unit(word: &[u8], base: u8) -> Word
+    ensures { λ r. ⌜ r ≡ unitUnder base (now (word .entry)) ⌝ }
+{
+    if is_prefixed(word) {
         return prefix_unit(word, base);
     }
     bare_unit(word, base)
+}
+
+// What the word is under the base of its place's letter. Most words are decimal digits under D: those are read at once, and two calls of
+// `any_unit` keep it a function of its own, so that this one is small enough to become part of its callers.
+pub fn read_word(word: &[u8], base: u8) -> Word
+    ensures { λ r. ⌜ r ≡ unitUnder base (now (word .entry)) ⌝ }
+{
+    if base == b'D' {
+        let run = digits::digits(word, 0, 10, 0);
+        if word.len() <= run.end {
+            if 0 < word.len() {
+                return sized_unit(b'D', 0, run.value);
+            }
+        }
+        return any_unit(word, b'D');
+    }
+    any_unit(word, base)
 }

@@ -5,6 +5,21 @@ ghost use lib.ListN.{drop};
 ghost use Rattle.walk.specs.Fields.{wordLength, fits, fieldAt};
 ghost use Rattle.walk.specs.Fronts.{tagOf};
 
+// The bytes before a field's content: one of the tag, two of the length.
+const HEADER: usize = 3;
+
+// The most bytes of a word.
+const MOST_WORD: usize = 32;
+
+// The most bytes of a string.
+const MOST_STRING: usize = 80;
+
+// The bytes of a range's content: upper end and increment.
+const RANGE_CONTENT: usize = 8;
+
+// The bytes of a numeral's content: letter, fraction digits, value.
+const NUMERAL_CONTENT: usize = 6;
+
 // Where a walk over a record stands.
 pub struct Walk {
     pub at: usize,
@@ -33,7 +48,7 @@ pub fn length(high: u8, low: u8) -> usize
 pub fn is_word_length(len: usize) -> bool
     ensures { λ r. ⌜ r ≡ wordLength len ⌝ }
 {
-    1 <= len && len <= 32
+    1 <= len && len <= MOST_WORD
 }
 
 // Whether there are fields of this tag with contents so long.
@@ -46,12 +61,12 @@ pub fn fits(tag: u8, len: usize) -> bool
         3 => len == 1,
         4 => is_word_length(len),
         5 => len == 0,
-        6 => len == 8,
-        7 => len == 6,
+        6 => len == RANGE_CONTENT,
+        7 => len == NUMERAL_CONTENT,
         8 => is_word_length(len),
         9 => is_word_length(len),
         10 => is_word_length(len),
-        11 => len <= 80,
+        11 => len <= MOST_STRING,
         0 => false,
         12..=255 => false,
     }
@@ -77,20 +92,22 @@ impl Walk {
             return Step::End;
         }
         let left = rec.len() - at;
-        if left < 3 {
+        if left < HEADER {
             return Step::Bad;
         }
         let len = length(rec[at + 1], rec[at + 2]);
-        if left - 3 < len {
+        if left - HEADER < len {
             return Step::Bad;
         }
         let tag = rec[at];
         if fits(tag, len) {
             return Step::Field {
                 tag: tag,
-                start: at + 3,
+                start: at + HEADER,
                 len: len,
-                next: Walk { at: at + 3 + len },
+                next: Walk {
+                    at: at + HEADER + len,
+                },
             };
         }
         Step::Bad

@@ -21,7 +21,7 @@ use Rattle.elements.proofs.EachLaws.{Between}
 use Rattle.values.proofs.FaultlessLaws.{sound}
 use Rattle.measure.specs.Measure.{bytesAt, bytesFrom, elementBytes}
 use Rattle.measure.proofs.BytesLaws.{bytes-word, bytes-string}
-use Rattle.measure.proofs.TurnLaws.{valueBytes, value-append, value-snoc, Met, met-none, met-all}
+use Rattle.measure.proofs.TurnLaws.{valueBytes, value-append, value-snoc, one-bytes, Met, met-none, met-all}
 use Rattle.writes.specs.Writes.{Fits, PutValue}
 
 -- ---- a unit
@@ -80,6 +80,18 @@ module _ {l : ℕ} {cs ts old : List ℕ} {n d i k : ℕ} {o : List ℕ} (w : Pu
 
   pub putting-all : d ≤ i → (k ≡ length (bytesFrom l cs ts n d)) × (o ≡ over (bytesFrom l cs ts n d) old)
   putting-all h = let z : d ≡ i = omega (arith, w .left) in (rw z (sym (w .size)), rw z (w .is))
+
+-- ---- a value of one unit: the field of a single element, then the unit's
+
+module _ (l : ℕ) (cs ts old : List ℕ) (h : length ts ≡ 1) where
+  pub one-room : Fits ts cs l (length old) → 3 + length (bytesAt l cs ts 0) ≤ length old
+  one-room v = let s = v .value in omega (arith, v .room, ap length (one-bytes l cs ts h (s .base) (s .end) (s .es) (s .own) (s .is)))
+
+  pub one-put : {p q : ℕ} {xs ys : List ℕ} → p ≡ 3 → xs ≡ over (fieldBytes (field 5 [])) old → q ≡ length (bytesAt l cs ts 0) → ys ≡ over (bytesAt l cs ts 0) (part xs p)
+      → PutValue ts cs l (p + q) old (back xs p ys)
+  one-put ep ex eq ey b e es own g =
+      let x = fieldBytes (field 5 []) in let y = bytesAt l cs ts 0 in
+      rw (one-bytes l cs ts h b e es own g) (omega arith, back-over x y old ex (sym ep) ey)
 
 -- ---- the elements
 

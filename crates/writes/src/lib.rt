@@ -129,7 +129,7 @@ fn put_element(
 }
 
 // The value, element by element. Returns how many bytes it wrote.
-pub fn put_value(out: &mut [u8], toks: &[u64], contents: &[u8], base: u8) -> usize
+fn put_elements(out: &mut [u8], toks: &[u64], contents: &[u8], base: u8) -> usize
     requires { ⌜ Fits (now toks) (now contents) base (length (now out)) ⌝ }
     ensures { λ r. ⌜ PutValue (now (toks .entry)) (now (contents .entry)) base r (now (out .entry)) (now (out .exit)) ⌝ }
 {
@@ -147,4 +147,16 @@ pub fn put_value(out: &mut [u8], toks: &[u64], contents: &[u8], base: u8) -> usi
         n = s.next;
     }
     k
+}
+
+// The value; one of one unit is written at once. Returns how many bytes it wrote.
+pub fn put_value(out: &mut [u8], toks: &[u64], contents: &[u8], base: u8) -> usize
+    requires { ⌜ Fits (now toks) (now contents) base (length (now out)) ⌝ }
+    ensures { λ r. ⌜ PutValue (now (toks .entry)) (now (contents .entry)) base r (now (out .entry)) (now (out .exit)) ⌝ }
+{
+    if toks.len() == 1 {
+        let p = fields::put_field(out, SINGLE, b"");
+        return p + put_unit(&mut out[p..], toks, contents, base, 0);
+    }
+    put_elements(out, toks, contents, base)
 }

@@ -1,8 +1,11 @@
 //! Times the proved library against the model: one table from one run.
 //!
-//! `bench [BATCHES]`. Each row times one call on both sides. Batches of calls alternate
+//! `bench [BATCHES]`: each row times one call on both sides. Batches of calls alternate
 //! between library and model; a row shows the median batch of each side. Buffers are as large
 //! as any answer needs and are not cleared between calls.
+//!
+//! `bench rows` names the rows; `bench run ROW SIDE CALLS` makes calls of one side of a row and
+//! nothing else, for the script `instructions`.
 
 use std::env;
 use std::hint::black_box;
@@ -30,12 +33,14 @@ const LONG: &str = concat!(
 
 const WIDE: &str = "A:0&&4094,0&&15;";
 
+const HEAD: &str = "call    text  record      k";
+
 /// A call on one side: gives the answer's value.
 type Side<'a> = Box<dyn FnMut() -> u32 + 'a>;
 
 /// One row of the table.
 struct Row<'a> {
-    name: &'static str,
+    call: &'static str,
     text: usize,
     record: usize,
     k: Option<u64>,
@@ -44,45 +49,99 @@ struct Row<'a> {
 }
 
 fn main() -> ExitCode {
-    let batches = match env::args().nth(1).map(|argument| argument.parse()) {
-        None => 61,
-        Some(Ok(batches)) if batches > 0 => batches,
-        Some(_) => {
-            eprintln!("usage: bench [BATCHES]");
-            return ExitCode::from(2);
-        }
-    };
+    let words: Vec<String> = env::args().skip(1).collect();
+    let words: Vec<&str> = words.iter().map(String::as_str).collect();
     if cfg!(debug_assertions) {
         eprintln!("bench: build it with --release");
         return ExitCode::from(2);
     }
+    match words[..] {
+        [] => table(61),
+        ["rows"] => list(),
+        ["run", row, side, calls] => return run(row, side, calls),
+        [batches] => match batches.parse() {
+            Ok(batches) if batches > 0 => table(batches),
+            _ => return usage(),
+        },
+        _ => return usage(),
+    }
+    ExitCode::SUCCESS
+}
+
+fn usage() -> ExitCode {
+    eprintln!("usage: bench [BATCHES] | bench rows | bench run ROW library|model CALLS");
+    ExitCode::from(2)
+}
+
+/// Times every row.
+fn table(batches: usize) {
+    let commands = Commands::new();
     println!(
         "nanoseconds per call, median of {batches} interleaved batches; \
          buffers large enough and not cleared between calls"
     );
-    println!(
-        "{:<6} {:>5} {:>7} {:>6} {:>9} {:>9} {:>6}",
-        "call", "text", "record", "k", "library", "model", "ratio"
-    );
-    for text in [SHORT, MIDDLE, LONG] {
-        let record = record_of(text);
-        let last = model::count(&record).map_or(0, u64::from) - 1;
-        read(text, &record).time(batches);
-        print(text, &record).time(batches);
-        count(text, &record).time(batches);
-        order(text, &record, 0).time(batches);
-        order(text, &record, last).time(batches);
+    println!("{HEAD} {:>9} {:>9} {:>6}", "library", "model", "ratio");
+    let times: Vec<(f64, f64)> = commands.rows().map(|row| row.time(batches)).collect();
+    if let [.., (library_first, model_first), (library_last, model_last)] = times[..] {
+        println!(
+            "last k of {WIDE} against k = 0: library {:.2}, model {:.2}",
+            library_last / library_first,
+            model_last / model_first
+        );
     }
-    let record = record_of(WIDE);
-    let last = model::count(&record).map_or(0, u64::from) - 1;
-    let (library_first, model_first) = order(WIDE, &record, 0).time(batches);
-    let (library_last, model_last) = order(WIDE, &record, last).time(batches);
-    println!(
-        "last k of {WIDE} against k = 0: library {:.2}, model {:.2}",
-        library_last / library_first,
-        model_last / model_first
-    );
+}
+
+/// Names every row.
+fn list() {
+    println!("{HEAD}");
+    for row in Commands::new().rows() {
+        println!("{}", row.name());
+    }
+}
+
+/// Makes so many calls of one side of a row: for a program that counts instructions.
+fn run(row: &str, side: &str, calls: &str) -> ExitCode {
+    let commands = Commands::new();
+    let row = row.parse().ok().and_then(|row| commands.rows().nth(row));
+    let (Some(row), Ok(calls)) = (row, calls.parse::<u32>()) else {
+        return usage();
+    };
+    let mut call = match side {
+        "library" => row.library,
+        "model" => row.model,
+        _ => return usage(),
+    };
+    for _ in 0..calls {
+        black_box(call());
+    }
     ExitCode::SUCCESS
+}
+
+/// The commands that are timed, with their records.
+struct Commands(Vec<(&'static str, Vec<u8>)>);
+
+impl Commands {
+    fn new() -> Commands {
+        Commands(
+            [SHORT, MIDDLE, LONG, WIDE]
+                .map(|text| (text, record_of(text)))
+                .into(),
+        )
+    }
+
+    /// Every row: all calls on the first three commands, the first and the last order of the last.
+    fn rows(&self) -> impl Iterator<Item = Row<'_>> {
+        self.0.iter().flat_map(|(text, record)| {
+            let last = model::count(record).map_or(0, u64::from) - 1;
+            let orders = [order(text, record, 0), order(text, record, last)];
+            let mut rows = Vec::new();
+            if *text != WIDE {
+                rows.extend([read(text, record), print(text, record), count(text, record)]);
+            }
+            rows.extend(orders);
+            rows
+        })
+    }
 }
 
 /// The record of a command, the same from both sides.
@@ -102,7 +161,7 @@ fn read<'a>(text: &'a str, record: &'a [u8]) -> Row<'a> {
     let mut out = vec![0; mml::RECORD_MAX];
     let mut other = out.clone();
     Row {
-        name: "read",
+        call: "read",
         text: text.len(),
         record: record.len(),
         k: None,
@@ -121,7 +180,7 @@ fn print<'a>(text: &'a str, record: &'a [u8]) -> Row<'a> {
     let mut out = vec![0; mml::TEXT_MAX];
     let mut other = out.clone();
     Row {
-        name: "print",
+        call: "print",
         text: text.len(),
         record: record.len(),
         k: None,
@@ -138,7 +197,7 @@ fn print<'a>(text: &'a str, record: &'a [u8]) -> Row<'a> {
 
 fn count<'a>(text: &'a str, record: &'a [u8]) -> Row<'a> {
     Row {
-        name: "count",
+        call: "count",
         text: text.len(),
         record: record.len(),
         k: None,
@@ -151,7 +210,7 @@ fn order<'a>(text: &'a str, record: &'a [u8], k: u64) -> Row<'a> {
     let mut out = vec![0; record.len()];
     let mut other = out.clone();
     Row {
-        name: "order",
+        call: "order",
         text: text.len(),
         record: record.len(),
         k: Some(k),
@@ -167,10 +226,20 @@ fn order<'a>(text: &'a str, record: &'a [u8], k: u64) -> Row<'a> {
 }
 
 impl Row<'_> {
+    /// What the row is about, under `HEAD`.
+    fn name(&self) -> String {
+        let k = self.k.map_or(String::from("-"), |k| k.to_string());
+        format!(
+            "{:<6} {:>5} {:>7} {:>6}",
+            self.call, self.text, self.record, k
+        )
+    }
+
     /// Times the row and prints it; gives library and model.
     fn time(mut self, batches: usize) -> (f64, f64) {
         let (library, model) = ((self.library)(), (self.model)());
         assert!(library > 0 && library == model, "the answers differ");
+        let name = self.name();
         let calls = calls_per_batch(&mut self.model);
         let mut times = [Vec::new(), Vec::new()];
         for batch in 0..batches {
@@ -181,15 +250,8 @@ impl Row<'_> {
             }
         }
         let [library, model] = times.map(median);
-        let k = self.k.map_or(String::from("-"), |k| k.to_string());
         println!(
-            "{:<6} {:>5} {:>7} {:>6} {:>9.1} {:>9.1} {:>6.2}",
-            self.name,
-            self.text,
-            self.record,
-            k,
-            library,
-            model,
+            "{name} {library:>9.1} {model:>9.1} {:>6.2}",
             library / model
         );
         (library, model)

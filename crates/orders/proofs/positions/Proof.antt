@@ -5,6 +5,8 @@ use native.Mathlib.Omega.{arith}
 use denote.Ref.{now}
 use Rattle.orders.proofs.positions.Statement.{statement}
 use Rattle.orders.proofs.positions.Tie as tie
+use Rattle.orders.proofs.remainder.Reads as remainder-reads
+use Rattle.orders.proofs.quotient.Reads as quotient-reads
 
 abbrev Inv-loop : tie.InvT-loop
 Inv-loop counts₀ k left₀ i₀ counts left i = Placing counts₀ k i left counts
@@ -13,7 +15,7 @@ abbrev μ-loop : tie.MeasureT-loop
 μ-loop counts₀ k left₀ i₀ counts left i = i
 
 loop-holds : tie.Need-loop-holds Inv-loop μ-loop
-loop-holds c = placing-none (now (c .args .counts)) (c .args .k)
+loop-holds c = placing-none (now (c .before .args .counts)) (c .before .args .k)
 
 sub-i : tie.Need-sub-i Inv-loop μ-loop
 sub-i c = omega arith
@@ -24,23 +26,25 @@ mul-number c = omega (arith, c .before .loop .inv .low, placing-long (c .before 
 slice-read-number : tie.Need-slice-read-number Inv-loop μ-loop
 slice-read-number c = omega (arith, c .before .before .loop .inv .low, placing-long (c .before .before .loop .inv))
 
-rem-counts : tie.Need-rem-counts Inv-loop μ-loop
-rem-counts c = rw (placing-next (c .before .before .loop .inv) (c .before .before .loop .i - 1) (omega arith)) (c .before .before .before .pre (c .before .before .loop .i - 1) (omega (arith, c .before .before .loop .inv .low)))
+remainder-requires : tie.Need-remainder-requires Inv-loop μ-loop
+remainder-requires c κs = rw (placing-next (c .before .before .loop .inv) (c .before .before .loop .i - 1) (omega arith)) (c .before .before .before .before .pre (c .before .before .loop .i - 1) (omega (arith, c .before .before .loop .inv .low)))
 
 mul-counts : tie.Need-mul-counts Inv-loop μ-loop
-mul-counts c = omega (arith, c .before .before .loop .inv .low, placing-long (c .before .before .loop .inv))
+mul-counts c = omega (arith, c .before .before .before .loop .inv .low, placing-long (c .before .before .before .loop .inv))
 
 slice-write-counts : tie.Need-slice-write-counts Inv-loop μ-loop
-slice-write-counts c = omega (arith, c .before .before .loop .inv .low, placing-long (c .before .before .loop .inv))
+slice-write-counts c = omega (arith, c .before .before .before .loop .inv .low, placing-long (c .before .before .before .loop .inv))
 
-div-left : tie.Need-div-left Inv-loop μ-loop
-div-left c = rw (placing-next (c .before .before .loop .inv) (c .before .before .loop .i - 1) (omega arith)) (c .before .before .before .pre (c .before .before .loop .i - 1) (omega (arith, c .before .before .loop .inv .low)))
+quotient-requires : tie.Need-quotient-requires Inv-loop μ-loop
+quotient-requires c κs = rw (placing-next (c .before .before .before .loop .inv) (c .before .before .before .loop .i - 1) (omega arith)) (c .before .before .before .before .before .pre (c .before .before .before .loop .i - 1) (omega (arith, c .before .before .before .loop .inv .low)))
 
 loop-less : tie.Need-loop-less Inv-loop μ-loop
 loop-less c = omega arith
 
 loop-again : tie.Need-loop-again Inv-loop μ-loop
-loop-again c = placing-more (c .before .before .loop .inv) (c .before .before .loop .i - 1) (omega arith) (placing-next (c .before .before .loop .inv) (c .before .before .loop .i - 1) (omega arith))
+loop-again c =
+    let turn = c .before .before .before .before .loop in
+    rw (c .quotient .ensures, c .before .remainder .ensures) (placing-more (turn .inv) (turn .i - 1) (omega arith) (placing-next (turn .inv) (turn .i - 1) (omega arith)))
 
 same-length : tie.Need-same-length Inv-loop μ-loop
 same-length c = placing-long (c .before .loop .inv)
@@ -58,10 +62,10 @@ positions-spec =
     sub-i
     mul-number
     slice-read-number
-    rem-counts
+    remainder-requires
     mul-counts
     slice-write-counts
-    div-left
+    quotient-requires
     loop-less
     loop-again
     same-length

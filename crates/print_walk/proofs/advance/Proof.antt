@@ -2,6 +2,8 @@ use borrow.Author.Needs.{needs}
 use Rattle.laws.specs.Keys.{none-above}
 use lib.ListN.{getD}
 use Rattle.print_walk.proofs.StepLaws.{some, unit-step}
+use mathlib.Core.Logic.{_⊎_, inl, inr}
+use Prim.Native.Nat.{ℕ, _<_, _≤_}
 use mathlib.Core.Path.{_≡_, refl, sym, ap, _∙_}
 use native.Mathlib.Omega.{arith}
 use denote.Ref.{now}
@@ -39,11 +41,13 @@ name-link-requires c κs = (c .before .before .before .pre .0, c .match .keys4)
 
 -- src/lib.rt:242:14
 element-link-requires : tie.Need-element-link-requires
-element-link-requires c κs = (c .before .before .before .pre .0, omega (arith, c .match .keys5), omega (arith, c .match .keys5))
+element-link-requires c κs =
+    (c .before .before .before .before .before .pre .0, none-above (getD (now (c .before .before .before .before .before .args .rec)) (c .before .before .before .before .before .args .c .at) 0) 4 (c .before .before .match .rest) (c .before .if1 .left), c .if2 .taken)
 
--- src/lib.rt:243:14
-element-link-requires-2 : tie.Need-element-link-requires-2
-element-link-requires-2 c κs = (c .before .before .before .pre .0, omega (arith, c .match .keys6), omega (arith, c .match .keys6))
+-- what is neither below 1 nor an element's is a unit's
+above : {A B : Type 0} {t : ℕ} → A ⊎ B → (A → t < 1) → (B → 7 ≤ t) → 1 ≤ t → 7 ≤ t
+above (inl a) f g h = let below : _ = f a in omega arith
+above (inr b) f g h = g b
 
 -- src/lib.rt:244:32
 unit-separator-requires : tie.Need-unit-separator-requires
@@ -51,7 +55,9 @@ unit-separator-requires c κs = search needs
 
 -- src/lib.rt:244:14
 unit-link-requires : tie.Need-unit-link-requires
-unit-link-requires c κs = (c .before .before .before .before .pre .0, none-above (getD (now (c .before .before .before .before .args .rec)) (c .before .before .before .before .args .c .at) 0) 6 (c .before .match .rest) (some (now (c .before .before .before .before .args .rec)) (c .before .before .before .before .args .c) (c .before .before .before .before .pre .0) (c .before .before .before .before .pre .1)))
+unit-link-requires c κs =
+    let entry = c .before .before .before .before .before in
+    (entry .pre .0, above (c .before .if1 .came) (λ x. x .taken) (λ x. x .1 .left) (some (now (entry .args .rec)) (entry .args .c) (entry .pre .0) (entry .pre .1)))
 
 -- src/lib.rt:232:1
 returns : tie.Need-returns
@@ -75,11 +81,7 @@ returns-5 c = c .element-link .ensures
 
 -- src/lib.rt:232:1
 returns-6 : tie.Need-returns-6
-returns-6 c = c .element-link2 .ensures
-
--- src/lib.rt:232:1
-returns-7 : tie.Need-returns-7
-returns-7 c = unit-step (c .before .unit-separator .ensures) (c .unit-link .ensures)
+returns-6 c = unit-step (c .before .unit-separator .ensures) (c .unit-link .ensures)
 
 pub advance-spec : {M : Type 1} → statement M
 advance-spec =
@@ -91,7 +93,6 @@ advance-spec =
     place-link-requires
     name-link-requires
     element-link-requires
-    element-link-requires-2
     unit-separator-requires
     unit-link-requires
     returns
@@ -99,5 +100,4 @@ advance-spec =
     returns-3
     returns-4
     returns-5
-    returns-6
-    returns-7)
+    returns-6)

@@ -12,14 +12,14 @@ use Rattle.units.proofs.bare_unit.Tie as tie
 use Rattle.units.proofs.bare_unit.Reads as reads
 use Rattle.units.proofs.bare_unit.Lts as lts
 use Rattle.units.proofs.name_unit.Reads as name-unit-reads
-use Rattle.units.proofs.numeral_unit.Reads as numeral-unit-reads
+use Rattle.units.proofs.base_unit.Reads as base-unit-reads
 
 other : (w : List ℕ) (a : Answer) → Other a → a ≡ orName w a
 unfolding orName
 other w = by-other (λ a. a ≡ orName w a) (λ l f v. refl) (λ k. refl) refl refl refl
 
-numeral-unit-requires : tie.Need-numeral-unit-requires
-numeral-unit-requires c κs = search needs
+base-unit-requires : tie.Need-base-unit-requires
+base-unit-requires c κs = search needs
 
 enum-told : tie.Need-enum-told
 enum-told c = search needs
@@ -29,11 +29,11 @@ name-unit-requires c κs = search needs
 
 returns : tie.Need-returns
 unfolding orName
-returns c = rw (← c .before .before .before .numeral-unit .ensures, c .before .enum-told .given .1) (c .name-unit .ensures)
+returns c = rw (← c .before .before .before .base-unit .ensures, c .before .enum-told .given .1) (c .name-unit .ensures)
 
 returns-2 : tie.Need-returns-2
-returns-2 c = other (now (c .before .before .before .args .word)) (c .before .numeral-unit .result) (c .match .keys2) ∙ rw (c .before .numeral-unit .ensures)
+returns-2 c = other (now (c .before .before .before .args .word)) (c .before .base-unit .result) (c .match .keys2) ∙ rw (c .before .base-unit .ensures)
 
 pub bare-unit-spec : {M : Type 1} → statement M
 bare-unit-spec =
-    tie.close (tie.spec numeral-unit-requires enum-told name-unit-requires returns returns-2)
+    tie.close (tie.spec base-unit-requires enum-told name-unit-requires returns returns-2)

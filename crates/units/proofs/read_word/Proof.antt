@@ -1,48 +1,47 @@
--- The test of the second character is the definition's; a shorter word has none.
+-- Digits to the end are the numeral under D by `decimal-all`; all else is read by the rules in turn.
 use borrow.Author.Needs.{needs}
-use Rattle.units.proofs.WordLaws.{short}
 use denote.Ref.{now}
-use borrow.Author.Tests.{eq-eqb, ne-eqb}
-use Rattle.units.specs.Words.{unitUnder}
+use mathlib.Core.Path.{_∙_}
+use Rattle.units.proofs.DecimalLaws.{decimal-all}
 use Rattle.units.proofs.read_word.Statement.{statement}
 use Rattle.units.proofs.read_word.Tie as tie
 use Rattle.units.proofs.read_word.Reads as reads
 use Rattle.units.proofs.read_word.Lts as lts
-use Rattle.units.proofs.bare_unit.Reads as bare-unit-reads
-use Rattle.units.proofs.prefix_unit.Reads as prefix-unit-reads
+use Rattle.digits.proofs.digits.Reads as digits-reads
+use Rattle.units.proofs.any_unit.Reads as any-unit-reads
+use Rattle.units.proofs.sized_unit.Reads as sized-unit-reads
 
-bare-unit-requires : tie.Need-bare-unit-requires
-bare-unit-requires c κs = search needs
+digits-requires : tie.Need-digits-requires
+digits-requires c κs = search needs
+
+sized-unit-requires : tie.Need-sized-unit-requires
+sized-unit-requires c κs = search needs
 
 returns : tie.Need-returns
-unfolding unitUnder
-returns c = rw (short (now (c .before .before .before .args .word)) (c .before .if1 .taken)) (c .bare-unit .ensures)
+returns c =
+    let a = c .before .before .before .before .before .before .before .args in
+    c .sized-unit .ensures ∙ decimal-all (a .base) (now (a .word)) (c .before .before .before .before .before .if1 .taken) (c .before .before .before .before .digits .ensures) (c .before .before .if2 .taken) (c .before .if3 .taken)
 
-shared-slice-read-if2 : tie.Need-shared-slice-read-if2
-shared-slice-read-if2 c = search needs
-
-prefix-unit-requires : tie.Need-prefix-unit-requires
-prefix-unit-requires c κs = search needs
+any-unit-requires : tie.Need-any-unit-requires
+any-unit-requires c κs = search needs
 
 returns-2 : tie.Need-returns-2
-unfolding unitUnder
-returns-2 c = rw (eq-eqb _ _ (c .before .if2 .taken)) (c .prefix-unit .ensures)
+returns-2 c = rw (c .before .before .before .before .if1 .taken) (c .any-unit .ensures)
 
-bare-unit-requires-2 : tie.Need-bare-unit-requires-2
-bare-unit-requires-2 c κs = search needs
+any-unit-requires-2 : tie.Need-any-unit-requires-2
+any-unit-requires-2 c κs = search needs
 
 returns-3 : tie.Need-returns-3
-unfolding unitUnder
-returns-3 c = rw (ne-eqb _ _ (c .before .if2 .left)) (c .bare-unit2 .ensures)
+returns-3 c = search needs
 
 pub read-word-spec : {M : Type 1} → statement M
 read-word-spec =
     tie.close
     (tie.spec
-    bare-unit-requires
+    digits-requires
+    sized-unit-requires
     returns
-    shared-slice-read-if2
-    prefix-unit-requires
+    any-unit-requires
     returns-2
-    bare-unit-requires-2
+    any-unit-requires-2
     returns-3)

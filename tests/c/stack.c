@@ -1,0 +1,121 @@
+/*
+ * stack - the bytes of stack that each call takes; more than 16 KiB is a failure.
+ *
+ * Each call runs on a stack of its own that is painted before; what is no longer painted was used. A command is read as it is, and
+ * with spaces to the longest text, since longer texts are read through longer tables.
+ */
+#define _XOPEN_SOURCE 700
+#include <stdio.h>
+#include <stdlib.h>
+#include <string.h>
+#include <ucontext.h>
+
+#include "mml.h"
+
+enum { ROOM = 1 << 18, PAINT = 0x5C, ALLOWED = 16384 };
+enum { READ, PRINT, ORDER, COUNT, CALLS };
+
+static const char *const names[CALLS] = { "read", "print", "order", "count" };
+
+static const char *const commands[] = {
+    "SET-ATT:LIN=7-1&&-3,LEV=3.5;",
+    "A:0&&4094,0&&15;",
+    "CHANGE-TRUNK-GROUP:ROUTE=7-1&&-3&-5&-9&8-2&-5&-6&9-1&&-7++2,LEV=3.5&4.25,OWNER=\"South \"\"B\"\" wing\",P=K'*21#,THR=10%"
+    ":1,,UPD8,B'1010,O'777,1-2-3-1&-2&-3&-4&-5&-6&-7&-8,CENTRAL,WEST;",
+};
+
+static uint8_t text[MML_TEXT_MAX];
+static uint8_t record[MML_RECORD_MAX];
+static uint8_t out[MML_RECORD_MAX];
+static size_t text_len, record_len;
+static uint64_t answer;
+static int call;
+
+static uint8_t room[ROOM];
+static ucontext_t here, there;
+
+static void stop(const char *why)
+{
+    fprintf(stderr, "stack: %s\n", why);
+    exit(2);
+}
+
+static uint64_t read_text(void)
+{
+    return mml_read(text, text_len, (const uint8_t *)"", 0, out, sizeof out);
+}
+
+static void run(void)
+{
+    switch (call) {
+    case READ:
+        answer = read_text();
+        break;
+    case PRINT:
+        answer = mml_print(record, record_len, out, sizeof out);
+        break;
+    case ORDER:
+        answer = mml_order(record, record_len, 0, out, sizeof out);
+        break;
+    default:
+        answer = mml_count(record, record_len);
+    }
+}
+
+/* The bytes of stack that the call takes. */
+static size_t used(void)
+{
+    size_t untouched = 0;
+
+    memset(room, PAINT, sizeof room);
+    if (getcontext(&there) != 0)
+        stop("there is no context");
+    there.uc_stack.ss_sp = room;
+    there.uc_stack.ss_size = sizeof room;
+    there.uc_link = &here;
+    makecontext(&there, run, 0);
+    if (swapcontext(&here, &there) != 0)
+        stop("the call cannot be run on a stack of its own");
+    if (MML_NUMBER(answer) != MML_DONE)
+        stop("a call refused");
+    while (untouched < sizeof room && room[untouched] == PAINT)
+        untouched++;
+    return sizeof room - untouched;
+}
+
+/* Takes up a command, with spaces to a length that is not below its own. */
+static void take(const char *command, size_t len)
+{
+    memset(text, ' ', sizeof text);
+    memcpy(text, command, strlen(command));
+    text_len = len;
+    answer = read_text();
+    if (MML_NUMBER(answer) != MML_DONE)
+        stop("a command is refused");
+    record_len = MML_VALUE(answer);
+    memcpy(record, out, record_len);
+}
+
+int main(void)
+{
+    size_t most[CALLS] = { 0 };
+    int failed = 0;
+
+    for (size_t i = 0; i < 2 * sizeof commands / sizeof commands[0]; i++) {
+        const char *command = commands[i / 2];
+        take(command, i % 2 == 0 ? strlen(command) : sizeof text);
+        for (call = 0; call < CALLS; call++) {
+            size_t bytes = used();
+            if (most[call] < bytes)
+                most[call] = bytes;
+        }
+    }
+    for (call = 0; call < CALLS; call++) {
+        printf("%-5s %5zu bytes of stack\n", names[call], most[call]);
+        if (ALLOWED < most[call])
+            failed = 1;
+    }
+    if (failed)
+        fprintf(stderr, "stack: a call takes more than %d bytes\n", ALLOWED);
+    return failed;
+}
