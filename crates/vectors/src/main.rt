@@ -16,6 +16,9 @@ const LONGEST_TEXT: usize = 1024;
 
 const MOST_PLACES: usize = 32;
 
+// So many orders of a record are all written.
+const FEW: u64 = 8;
+
 // The tag of the fields that hold a place's base letter.
 const PLACE_TAG: u8 = 3;
 
@@ -181,7 +184,7 @@ fn content_length(record: &[u8], at: usize) -> usize
     high * 256 + low
 }
 
-// Takes a record in hexadecimal, and writes its number of orders with the first and the last.
+// Takes a record in hexadecimal, and writes its number of orders and the orders.
 fn run_record(digits: &[u8]) {
     io::write_all(STDOUT_FILENO, digits);
     io::write_all(STDOUT_FILENO, b" -> ");
@@ -194,17 +197,34 @@ fn run_record(digits: &[u8]) {
     }
 }
 
-// Writes the number of a record's orders, its first and its last order.
+// Writes the number of a record's orders, the orders, and what is answered for the number behind the last.
 fn write_orders(record: &[u8]) {
     match mml::count(record) {
         Answer::Done(n) => {
             write_count(n);
-            write_order(record, 0);
-            if 0 < n {
-                write_order(record, (n - 1) as u64);
-            }
+            write_some(record, n as u64);
+            write_order(record, n as u64);
         }
         Answer::Refused(number, place) => write_refusal(number, place),
+    }
+}
+
+// Writes all orders where they are few, else the first and the last.
+fn write_some(record: &[u8], count: u64) {
+    if count <= FEW {
+        write_all(record, count);
+    } else {
+        write_order(record, 0);
+        write_order(record, count - 1);
+    }
+}
+
+// Writes the orders below `count`, in turn.
+fn write_all(record: &[u8], count: u64) {
+    let mut k = 0;
+    while k < count {
+        write_order(record, k);
+        k += 1;
     }
 }
 
