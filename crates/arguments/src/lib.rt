@@ -64,7 +64,7 @@ pub fn after(rec: &[u8], at: usize) -> usize
 }
 
 // Whether the tag is one of those from `low` to `high`.
-pub fn is_between(tag: u8, low: u8, high: u8) -> bool
+fn is_between(tag: u8, low: u8, high: u8) -> bool
     ensures { λ r. ⌜ r ≡ between low high tag ⌝ }
 {
     low <= tag && tag <= high
@@ -87,7 +87,7 @@ pub fn run_end(rec: &[u8], at: usize, low: u8, high: u8) -> usize
 }
 
 // Where the element that stands there ends, behind its last unit.
-pub fn element_end(rec: &[u8], at: usize) -> usize
+fn element_end(rec: &[u8], at: usize) -> usize
     requires { ⌜ Whole (now rec) at ⌝ }
     ensures { λ r. ⌜ ElementTo (now (rec .entry)) at r ⌝ }
 {
@@ -96,7 +96,7 @@ pub fn element_end(rec: &[u8], at: usize) -> usize
 }
 
 // The number of four bytes that stands there, its high byte first.
-pub fn number_at(bytes: &[u8], at: usize) -> u32
+fn number_at(bytes: &[u8], at: usize) -> u32
     requires { ⌜ at + 4 ≤ length (now bytes) ⌝ }
     ensures { λ r. ⌜ r ≡ num4 (now (bytes .entry)) at ⌝ }
 {
@@ -104,7 +104,7 @@ pub fn number_at(bytes: &[u8], at: usize) -> u32
 }
 
 // Whether these bytes of an element are a range's: its field with upper end and increment, and a numeral as last unit.
-pub fn is_range(element: &[u8]) -> bool
+fn is_range(element: &[u8]) -> bool
     ensures { λ r. ⌜ r ≡ isRange (now (element .entry)) ⌝ }
 {
     if element.len() < SHORTEST_RANGE {
@@ -114,7 +114,7 @@ pub fn is_range(element: &[u8]) -> bool
 }
 
 // How often the increment goes into what lies between the ends.
-pub fn steps(lower: u32, upper: u32, increment: u32) -> u32
+fn steps(lower: u32, upper: u32, increment: u32) -> u32
     ensures { λ r. ⌜ r ≡ (upper - lower) / increment ⌝ }
 {
     if upper < lower {
@@ -127,7 +127,7 @@ pub fn steps(lower: u32, upper: u32, increment: u32) -> u32
 }
 
 // How many terms an element has behind its first one.
-pub fn more_terms(element: &[u8]) -> u32
+fn more_terms(element: &[u8]) -> u32
     ensures { λ r. ⌜ r ≡ moreTerms (now (element .entry)) ⌝ }
 {
     if is_range(element) {
@@ -171,7 +171,7 @@ pub fn argument_len(element: &[u8]) -> usize
 }
 
 // A range's term: the increment so often added to the lower end.
-pub fn term_value(range: &[u8], term: u32) -> u32
+fn term_value(range: &[u8], term: u32) -> u32
     requires { ⌜ (isRange (now range) ≡ true) × (term ≤ moreTerms (now range)) ⌝ }
     ensures { λ r. ⌜ r ≡ termValue (now (range .entry)) term ⌝ }
 {
@@ -180,7 +180,7 @@ pub fn term_value(range: &[u8], term: u32) -> u32
 }
 
 // A range's term as a single element: the leading units as they are, the last unit made new.
-pub fn put_term(out: &mut [u8], range: &[u8], term: u32) -> usize
+fn put_term(out: &mut [u8], range: &[u8], term: u32) -> usize
     requires { ⌜ (isRange (now range) ≡ true) × (term ≤ moreTerms (now range)) × (length (termBytes (now range) term) ≤ length (now out)) ⌝ }
     ensures { λ r. ⌜ (r ≡ length (termBytes (now (range .entry)) term))
         × (now (out .exit) ≡ over (termBytes (now (range .entry)) term) (now (out .entry))) ⌝ }

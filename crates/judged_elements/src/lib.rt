@@ -60,7 +60,7 @@ pub enum Arguments {
 }
 
 // The units that stand at the start of a part of a record: at most four.
-pub fn judge_units(part: &[u8], base: u8) -> Units
+fn judge_units(part: &[u8], base: u8) -> Units
     ensures { λ r. ⌜ IsUnits (baseAt base) (now (part .entry)) r ⌝ }
 {
     let mut at = 0;
@@ -100,7 +100,7 @@ pub fn judge_units(part: &[u8], base: u8) -> Units
 }
 
 // The terms of a range behind its lower end: upper not below lower, increment at least 1.
-pub fn range_terms(ends: &[u8], lower: u32) -> Terms
+fn range_terms(ends: &[u8], lower: u32) -> Terms
     requires { ⌜ length (now ends) ≡ 8 ⌝ }
     ensures { λ r. ⌜ r ≡ moreOf (now (ends .entry)) lower ⌝ }
 {
@@ -116,14 +116,14 @@ pub fn range_terms(ends: &[u8], lower: u32) -> Terms
 }
 
 // Whether the tag is an element's.
-pub fn is_element(tag: u8) -> bool
+fn is_element(tag: u8) -> bool
     ensures { λ r. ⌜ r ≡ isElement tag ⌝ }
 {
     tag == SINGLE || tag == RANGE
 }
 
 // The element that stands at a position: its field, and its units from behind the field on.
-pub fn judge_element(rec: &[u8], at: usize, base: u8) -> OneElement
+fn judge_element(rec: &[u8], at: usize, base: u8) -> OneElement
     requires { ⌜ isElement (tagOf (drop at (now rec))) ≡ true ⌝ }
     ensures { λ r. ⌜ IsElement (baseAt base) (now (rec .entry)) at r ⌝ }
 {
@@ -169,7 +169,7 @@ pub fn judge_element(rec: &[u8], at: usize, base: u8) -> OneElement
 }
 
 // Whether an element may stand behind those before it: with as many units, if there are any, and so many arguments in all.
-pub fn joins(units: usize, arguments: u32, count: usize, more: u32) -> bool
+fn joins(units: usize, arguments: u32, count: usize, more: u32) -> bool
     requires { ⌜ arguments ≤ 4096 ⌝ }
     ensures { λ r. ⌜ r ≡ joins units arguments count (more + 1) ⌝ }
 {

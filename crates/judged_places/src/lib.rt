@@ -26,7 +26,7 @@ pub enum OnePlace {
 }
 
 // Whether the word may be a piece: an identifier or, where one may stand, an index number.
-pub fn is_piece(word: &[u8], index: bool) -> bool
+fn is_piece(word: &[u8], index: bool) -> bool
     ensures { λ r. ⌜ r ≡ mayBePiece index (now (word .entry)) ⌝ }
 {
     if units::is_identifier(word) {
@@ -78,7 +78,7 @@ pub fn judge_pieces(rec: &[u8], from: usize, tag: u8, most: usize, names: bool) 
 }
 
 // Whether the byte is a base's letter.
-pub fn is_base(letter: u8) -> bool
+fn is_base(letter: u8) -> bool
     ensures { λ r. ⌜ r ≡ isBase letter ⌝ }
 {
     match letter {
@@ -92,7 +92,7 @@ pub fn is_base(letter: u8) -> bool
 }
 
 // Whether a place with so many pieces and arguments may stand in its block: named, with a name and a value, or not, with no name.
-pub fn kind_agrees(named: bool, pieces: usize, arguments: u32) -> bool
+fn kind_agrees(named: bool, pieces: usize, arguments: u32) -> bool
     ensures { λ r. ⌜ r ≡ kindAgrees named pieces arguments ⌝ }
 {
     if named {
@@ -105,7 +105,7 @@ pub fn kind_agrees(named: bool, pieces: usize, arguments: u32) -> bool
 }
 
 // The arguments of a value as they count: an omitted place counts one.
-pub fn counted(arguments: u32) -> u32
+fn counted(arguments: u32) -> u32
     ensures { λ r. ⌜ r ≡ counted arguments ⌝ }
 {
     if arguments == 0 {
@@ -115,7 +115,7 @@ pub fn counted(arguments: u32) -> u32
 }
 
 // The name and the value of a place, from behind its field on.
-pub fn judge_parts(rec: &[u8], from: usize, base: u8, named: bool) -> OnePlace
+fn judge_parts(rec: &[u8], from: usize, base: u8, named: bool) -> OnePlace
     requires { ⌜ from ≤ length (now rec) ⌝ }
     ensures { λ r. ⌜ IsParts named base (now (rec .entry)) from r ⌝ }
 {

@@ -47,7 +47,7 @@ pub fn last_unit(rec: &[u8], from: usize) -> usize
 }
 
 // Whether two parts have the same bytes.
-pub fn same(a: &[u8], b: &[u8]) -> bool
+fn same(a: &[u8], b: &[u8]) -> bool
     ensures { λ r. ⌜ r ≡ eqL (now (a .entry)) (now (b .entry)) ⌝ }
 {
     if a.len() != b.len() {

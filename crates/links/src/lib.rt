@@ -26,7 +26,7 @@ pub struct Link {
 }
 
 // The kind of a field's text: a piece of a code or name is printed as an identifier is.
-pub fn kind_of(tag: u8, content: &[u8]) -> unit_text::Kind
+fn kind_of(tag: u8, content: &[u8]) -> unit_text::Kind
     requires { ⌜ Sized tag (now content) ⌝ }
     ensures { λ r. ⌜ r ≡ kindIn tag (now (content .entry)) ⌝ }
 {
@@ -48,7 +48,7 @@ pub fn kind_of(tag: u8, content: &[u8]) -> unit_text::Kind
 }
 
 // The text of a field. Returns how many bytes it wrote.
-pub fn put_own(out: &mut [u8], tag: u8, content: &[u8], base: u8) -> usize
+fn put_own(out: &mut [u8], tag: u8, content: &[u8], base: u8) -> usize
     requires { ⌜ Fits tag (now content) × (length (ownText base tag (now content)) ≤ length (now out)) ⌝ }
     ensures { λ r. ⌜ (r ≡ length (ownText base tag (now (content .entry))))
         × (now (out .exit) ≡ over (ownText base tag (now (content .entry))) (now (out .entry))) ⌝ }
@@ -58,7 +58,7 @@ pub fn put_own(out: &mut [u8], tag: u8, content: &[u8], base: u8) -> usize
 }
 
 // How many bytes the text of a field has.
-pub fn own_len(tag: u8, content: &[u8], base: u8) -> usize
+fn own_len(tag: u8, content: &[u8], base: u8) -> usize
     requires { ⌜ Fits tag (now content) ⌝ }
     ensures { λ r. ⌜ r ≡ length (ownText base tag (now (content .entry))) ⌝ }
 {
@@ -67,7 +67,7 @@ pub fn own_len(tag: u8, content: &[u8], base: u8) -> usize
 }
 
 // A separator and a numeral without fraction: an upper end or an increment. Returns how many bytes it wrote.
-pub fn put_end(out: &mut [u8], separator: Separator, base: u8, letter: u8, value: u32) -> usize
+fn put_end(out: &mut [u8], separator: Separator, base: u8, letter: u8, value: u32) -> usize
     requires { ⌜ length (endText separator base letter value) ≤ length (now out) ⌝ }
     ensures { λ r. ⌜ (r ≡ length (endText separator base letter value))
         × (now (out .exit) ≡ over (endText separator base letter value) (now (out .entry))) ⌝ }
@@ -77,14 +77,14 @@ pub fn put_end(out: &mut [u8], separator: Separator, base: u8, letter: u8, value
 }
 
 // How many bytes an upper end or an increment has, its separator included.
-pub fn end_len(separator: Separator, base: u8, letter: u8, value: u32) -> usize
+fn end_len(separator: Separator, base: u8, letter: u8, value: u32) -> usize
     ensures { λ r. ⌜ r ≡ length (endText separator base letter value) ⌝ }
 {
     separators::separator_len(separator) + texts::numeral_text_len(base, letter, 0, value)
 }
 
 // The separator before an upper end.
-pub fn through(compound: bool) -> Separator
+fn through(compound: bool) -> Separator
     ensures { λ r. ⌜ r ≡ throughOf compound ⌝ }
 {
     if compound {
@@ -95,7 +95,7 @@ pub fn through(compound: bool) -> Separator
 }
 
 // The upper end of a range and its increment, unless that is 1. Returns how many bytes it wrote.
-pub fn put_range_end(
+fn put_range_end(
     out: &mut [u8],
     base: u8,
     letter: u8,
@@ -118,7 +118,7 @@ pub fn put_range_end(
 }
 
 // How many bytes the end of a range has.
-pub fn range_end_len(base: u8, letter: u8, compound: bool, upper: u32, increment: u32) -> usize
+fn range_end_len(base: u8, letter: u8, compound: bool, upper: u32, increment: u32) -> usize
     ensures { λ r. ⌜ r ≡ length (rangeEnd base letter compound upper increment) ⌝ }
 {
     if increment == 0 {
@@ -132,7 +132,7 @@ pub fn range_end_len(base: u8, letter: u8, compound: bool, upper: u32, increment
 }
 
 // The letter of a numeral's field; 0 for an empty content.
-pub fn letter_of(content: &[u8]) -> u8
+fn letter_of(content: &[u8]) -> u8
     ensures { λ r. ⌜ r ≡ getD (now (content .entry)) 0 0 ⌝ }
 {
     if content.len() == 0 {

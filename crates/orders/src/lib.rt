@@ -60,7 +60,7 @@ fn quotient(k: u32, number: u32) -> u32
 }
 
 // Each place's position, where its number of arguments stood: from the last place back the remainder, and the quotient goes on.
-pub fn positions(counts: &mut [u32], k: u32)
+fn positions(counts: &mut [u32], k: u32)
     requires { ⌜ ((i : ℕ) → i < length (now counts) → 0 < getD (now counts) i 0) ⌝ }
     ensures { λ r. ⌜ now (counts .exit) ≡ positionsOf (now (counts .entry)) k ⌝ }
 {
@@ -75,7 +75,7 @@ pub fn positions(counts: &mut [u32], k: u32)
 }
 
 // Where the next place's value begins: behind the fields of code and block, the place's field and its name.
-pub fn value_start(rec: &[u8], at: usize) -> usize
+fn value_start(rec: &[u8], at: usize) -> usize
     requires { ⌜ Whole (now rec) at ⌝ }
     ensures { λ r. ⌜ HeadTo (now (rec .entry)) at r ⌝ }
 {
@@ -85,7 +85,7 @@ pub fn value_start(rec: &[u8], at: usize) -> usize
 }
 
 // The stretch that begins there, its value reduced to the argument at the position. An omitted place has none.
-pub fn next_stretch(rec: &[u8], at: usize, position: u32) -> Stretch
+fn next_stretch(rec: &[u8], at: usize, position: u32) -> Stretch
     requires { ⌜ Whole (now rec) at ⌝ }
     ensures { λ r. ⌜ IsStretch (now (rec .entry)) at position r ⌝ }
 {
@@ -112,7 +112,7 @@ pub fn next_stretch(rec: &[u8], at: usize, position: u32) -> Stretch
 }
 
 // How many bytes an order keeps of the stretch.
-pub fn stretch_len(rec: &[u8], at: usize, stretch: Stretch) -> usize
+fn stretch_len(rec: &[u8], at: usize, stretch: Stretch) -> usize
     requires { ⌜ Within (now rec) at stretch ⌝ }
     ensures { λ r. ⌜ r ≡ length (stretchBytes (now (rec .entry)) at stretch) ⌝ }
 {
@@ -122,7 +122,7 @@ pub fn stretch_len(rec: &[u8], at: usize, stretch: Stretch) -> usize
 }
 
 // Writes what an order keeps of the stretch.
-pub fn put_stretch(out: &mut [u8], rec: &[u8], at: usize, stretch: Stretch) -> usize
+fn put_stretch(out: &mut [u8], rec: &[u8], at: usize, stretch: Stretch) -> usize
     requires { ⌜ Within (now rec) at stretch × (length (stretchBytes (now rec) at stretch) ≤ length (now out)) ⌝ }
     ensures { λ r. ⌜ (r ≡ length (stretchBytes (now (rec .entry)) at stretch))
         × (now (out .exit) ≡ over (stretchBytes (now (rec .entry)) at stretch) (now (out .entry))) ⌝ }
@@ -136,7 +136,7 @@ pub fn put_stretch(out: &mut [u8], rec: &[u8], at: usize, stretch: Stretch) -> u
 }
 
 // The length of the record with each value reduced to the argument at its place's position.
-pub fn measure(rec: &[u8], positions: &[u32]) -> usize
+fn measure(rec: &[u8], positions: &[u32]) -> usize
     requires { ⌜ Fit (now rec) (now positions) ⌝ }
     ensures { λ r. ⌜ r ≡ length (reduced (now (rec .entry)) (now (positions .entry))) ⌝ }
 {
@@ -153,7 +153,7 @@ pub fn measure(rec: &[u8], positions: &[u32]) -> usize
 }
 
 // Writes that record.
-pub fn put_reduced(out: &mut [u8], rec: &[u8], positions: &[u32]) -> usize
+fn put_reduced(out: &mut [u8], rec: &[u8], positions: &[u32]) -> usize
     requires { ⌜ Fit (now rec) (now positions) × (length (reduced (now rec) (now positions)) ≤ length (now out)) ⌝ }
     ensures { λ r. ⌜ (r ≡ length (reduced (now (rec .entry)) (now (positions .entry))))
         × (now (out .exit) ≡ over (reduced (now (rec .entry)) (now (positions .entry))) (now (out .entry))) ⌝ }
@@ -172,7 +172,7 @@ pub fn put_reduced(out: &mut [u8], rec: &[u8], positions: &[u32]) -> usize
 }
 
 // Writes that record; 17 with the bytes needed if the buffer is too short, which only a buffer shorter than the record can be.
-pub fn put_order(out: &mut [u8], rec: &[u8], positions: &[u32]) -> rules::Answer
+fn put_order(out: &mut [u8], rec: &[u8], positions: &[u32]) -> rules::Answer
     requires { ⌜ Fit (now rec) (now positions) ⌝ }
     ensures { λ r. ⌜ Promise (fitted (now (out .entry)) (ok (reduced (now (rec .entry)) (now (positions .entry))))) (now (out .entry)) r (now (out .exit)) ⌝ }
 {

@@ -47,7 +47,7 @@ pub fn cap(size: u64) -> u32
 }
 
 // The number of bytes of a token's content.
-pub fn content_len(contents: &[u8], t: u64) -> usize
+fn content_len(contents: &[u8], t: u64) -> usize
     ensures { λ r. ⌜ r ≡ length (contentIn (now (contents .entry)) t) ⌝ }
 {
     table::end(t, contents.len()) - table::start(t, contents.len())

@@ -46,7 +46,7 @@ pub enum Judged {
 }
 
 // The places of a block, from behind its field on: at least one, at most 32 with those before, and no more than 65,535 orders.
-pub fn judge_places(
+fn judge_places(
     rec: &[u8],
     from: usize,
     named: bool,
@@ -87,20 +87,14 @@ pub fn judge_places(
 }
 
 // Whether the byte is a kind of block.
-pub fn is_kind(kind: u8) -> bool
+fn is_kind(kind: u8) -> bool
     ensures { λ r. ⌜ r ≡ isKind kind ⌝ }
 {
     kind == b'N' || kind == b'P'
 }
 
 // The block that stands at a position: its field, and its places from behind the field on.
-pub fn judge_block(
-    rec: &[u8],
-    at: usize,
-    number: usize,
-    orders: u32,
-    counts: &mut [u32; 32],
-) -> Places
+fn judge_block(rec: &[u8], at: usize, number: usize, orders: u32, counts: &mut [u32; 32]) -> Places
     requires { ⌜ (tagOf (drop at (now rec)) ≡ 2) × (number ≤ 32) × (orders ≤ 65535) × (length (now counts) ≡ 32) ⌝ }
     ensures { λ r. ⌜ IsBlock (now (rec .entry)) at number orders (now (counts .entry)) (now (counts .exit)) r ⌝ }
 {
@@ -122,7 +116,7 @@ pub fn judge_block(
 }
 
 // The blocks that stand from a position to the record's end: at most 8.
-pub fn judge_blocks(rec: &[u8], from: usize, counts: &mut [u32; 32]) -> Judged
+fn judge_blocks(rec: &[u8], from: usize, counts: &mut [u32; 32]) -> Judged
     requires { ⌜ (from ≤ length (now rec)) × (length (now counts) ≡ 32) ⌝ }
     ensures { λ r. ⌜ IsBlocks (now (rec .entry)) from (now (counts .exit)) r ⌝ }
 {

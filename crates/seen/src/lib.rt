@@ -227,7 +227,7 @@ fn numeral_seen(word: &[u8], base: u8, next: usize) -> Seen
 }
 
 // A field's tag and content.
-pub fn field_seen(tag: u8, word: &[u8], base: u8, next: usize) -> Seen
+fn field_seen(tag: u8, word: &[u8], base: u8, next: usize) -> Seen
     ensures { λ r. ⌜ r ≡ fieldSeen base tag next (now (word .entry)) ⌝ }
 {
     if tag == fields::NUMERAL {

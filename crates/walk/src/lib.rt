@@ -38,21 +38,21 @@ pub enum Step {
 }
 
 // A length from its two bytes.
-pub fn length(high: u8, low: u8) -> usize
+fn length(high: u8, low: u8) -> usize
     ensures { λ r. ⌜ r ≡ high * 256 + low ⌝ }
 {
     high as usize * 256 + low as usize
 }
 
 // Whether a word may be so long.
-pub fn is_word_length(len: usize) -> bool
+fn is_word_length(len: usize) -> bool
     ensures { λ r. ⌜ r ≡ wordLength len ⌝ }
 {
     1 <= len && len <= MOST_WORD
 }
 
 // Whether there are fields of this tag with contents so long.
-pub fn fits(tag: u8, len: usize) -> bool
+fn fits(tag: u8, len: usize) -> bool
     ensures { λ r. ⌜ r ≡ fits tag len ⌝ }
 {
     match tag {
