@@ -2,7 +2,7 @@
 use mathlib.Core.Path.{_≡_, refl, sym, ap, _∙_, subst}
 use mathlib.Core.Bool.{Bool, true, false, false≢true}
 use mathlib.Core.List.{List}
-use Prim.Native.Nat.{ℕ, _≤_, _<_}
+use Prim.Native.Nat.{ℕ, _*_, _≤_, _<_}
 use native.Mathlib.Omega.{arith}
 use borrow.Author.Tests.{le-leb, lt-leb, leb-true, leb-false}
 use lib.Dec.{leb}
@@ -16,6 +16,7 @@ use Rattle.rules.specs.WellFormed.{isOk, recordOf, wellFormedBytes}
 use Rattle.rules.specs.Answers.{fitted, printing, Promise, Prints}
 use Rattle.rules.specs.declared.Answer.{Answer}
 use Rattle.rules.specs.declared.Answer.the-variants.{Done, Refused}
+use Rattle.rules.proofs.TextBound.{record-bound}
 use Rattle.records.specs.declared.Judged.{Judged}
 use Rattle.records.specs.declared.Judged.the-variants.{Good, Bad}
 use Rattle.records.specs.Judged.{Judges, IsGood}
@@ -79,6 +80,29 @@ module _ (rec : List ℕ) {old new : List ℕ} {n : ℕ} (h : wellFormedBytes re
       let e = has-room rec old h (q .1) (omega (arith, q .0, long)) in
       let s : m ≡ length (textOf rec) = t .size ∙ sym (g .size) ∙ q .0 in
       record { answers = rw (e, s); holds = rw e (t .holds ∙ rw (g .holds)) }
+
+-- ---- a short record, written at once
+
+by-record : (rec : List ℕ) (r : Res Command) → recordOf rec ≡ r → length (printed r) ≤ 7 * length rec
+by-record rec (ok c) e = record-bound rec c e
+by-record rec (bad n p) e = omega arith
+
+module _ (rec : List ℕ) {old : List ℕ} (k : length rec ≤ 146) (l : 1024 ≤ length old) where
+  pub short-room : Room rec old
+  unfolding textOf
+  short-room = let b = by-record rec (recordOf rec) refl in record { few = omega (arith, b); fits = omega (arith, b) }
+
+  short-size : {m : ℕ} {new : List ℕ} → Gives rec true old m new → m ≡ length (textOf rec)
+  unfolding measured
+  short-size t = t .size ∙ rw (le-leb (length (textOf rec)) 1024 (short-room .few))
+
+  pub short-few : {m : ℕ} {new : List ℕ} → Gives rec true old m new → m ≤ 1024
+  short-few t = omega (arith, short-size t, short-room .few)
+
+  pub answer-short : {m : ℕ} {new : List ℕ} → wellFormedBytes rec ≡ true → Gives rec true old m new → Prints rec old (Done m) new
+  answer-short h t =
+      let e = has-room rec old h (short-room .few) (short-room .fits) in
+      record { answers = rw (e, short-size t); holds = rw e (t .holds) }
 
 -- ---- what the judge said
 

@@ -13,9 +13,11 @@ const TOO_LONG: u8 = 2;
 const NO_ROOM: u8 = 17;
 // 18: the record is not well formed.
 const NOT_WELL_FORMED: u8 = 18;
+// A record of at most so many bytes has a text of at most 1,024: a text has at most seven bytes for each byte of its record.
+const SHORT: usize = 146;
 
-// A record that is known to be well formed: measured, then written.
-fn print_known(rec: &[u8], out: &mut [u8]) -> Answer
+// A record that is known to be well formed: its text measured, then written.
+fn print_measured(rec: &[u8], out: &mut [u8]) -> Answer
     requires { ⌜ wellFormedBytes (now rec) ≡ true ⌝ }
     ensures { λ r. ⌜ Prints (now (rec .entry)) (now (out .entry)) r (now (out .exit)) ⌝ }
 {
@@ -30,7 +32,20 @@ fn print_known(rec: &[u8], out: &mut [u8]) -> Answer
     Answer::Done(written as u32)
 }
 
-// Prints a record as a command: judged first, then measured, then written.
+// A record that is known to be well formed: a short one is written at once where the buffer has room for the longest text, any other is measured first.
+fn print_known(rec: &[u8], out: &mut [u8]) -> Answer
+    requires { ⌜ wellFormedBytes (now rec) ≡ true ⌝ }
+    ensures { λ r. ⌜ Prints (now (rec .entry)) (now (out .entry)) r (now (out .exit)) ⌝ }
+{
+    if rec.len() <= SHORT {
+        if MOST_TEXT <= out.len() {
+            return Answer::Done(print_text::text(rec, out, true) as u32);
+        }
+    }
+    print_measured(rec, out)
+}
+
+// Prints a record as a command: judged first, then measured unless it is short, then written.
 pub fn print(rec: &[u8], out: &mut [u8]) -> Answer
     ensures { λ r. ⌜ Prints (now (rec .entry)) (now (out .entry)) r (now (out .exit)) ⌝ }
 {

@@ -21,3 +21,4 @@ pub mod DirectIsList
 pub mod Lines
 pub mod OrderFits
 pub mod EncodeDecode
+pub mod TextBound

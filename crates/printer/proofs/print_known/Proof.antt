@@ -1,71 +1,51 @@
+-- A short record's text fits a buffer of 1,024 bytes; every other way is the measured one.
 use borrow.Author.Needs.{needs}
-use mathlib.Core.Bool.{true, false, false≢true}
-use Rattle.printer.proofs.AnswerLaws.{answer-long, answer-room, text-room, answer-done}
-use mathlib.Core.Path.{_≡_, refl, sym, ap, _∙_}
 use native.Mathlib.Omega.{arith}
 use denote.Ref.{now}
+use Rattle.printer.proofs.AnswerLaws.{short-room, short-few, answer-short}
 use Rattle.printer.proofs.print_known.Statement.{statement}
 use Rattle.printer.proofs.print_known.Tie as tie
 use Rattle.printer.proofs.print_known.Reads as reads
 use Rattle.printer.proofs.print_known.Lts as lts
 use Rattle.print_text.proofs.text.Reads as text-reads
+use Rattle.printer.proofs.print_measured.Reads as print-measured-reads
 
--- src/lib.rt:17:9
+-- src/lib.rt:42:33
 text-requires : tie.Need-text-requires
-text-requires c κs = (c .before .before .before .pre, λ y. absurd (false≢true y))
+text-requires c κs = (c .before .before .before .before .before .pre, λ y. short-room (now (c .before .before .before .before .before .args .rec)) (c .before .before .if1 .taken) (c .before .if2 .taken))
 
--- src/lib.rt:19:42
-cast-t8 : tie.Need-cast-t8
-cast-t8 c = search needs
+-- src/lib.rt:42:33
+cast-t10 : tie.Need-cast-t10
+cast-t10 c = omega (arith, short-few (now (c .before .before .before .before .before .before .before .before .args .rec)) (c .before .before .before .before .before .if1 .taken) (c .before .before .before .before .if2 .taken) (c .before .before .text .ensures))
 
--- src/lib.rt:19:9
+-- src/lib.rt:42:13
 same-length : tie.Need-same-length
 same-length c = search needs
 
--- src/lib.rt:19:9
+-- src/lib.rt:42:13
 returns : tie.Need-returns
-returns c = answer-long (now (c .before .before .before .before .before .before .before .args .rec)) (c .before .before .before .before .before .before .before .pre) (c .before .before .before .text .ensures) (c .if1 .taken)
+returns c = answer-short (now (c .before .before .before .before .before .before .before .before .args .rec)) (c .before .before .before .before .before .if1 .taken) (c .before .before .before .before .if2 .taken) (c .before .before .before .before .before .before .before .before .pre) (c .before .before .text .ensures)
 
--- src/lib.rt:22:41
-cast-t10 : tie.Need-cast-t10
-cast-t10 c = search needs
+-- src/lib.rt:45:5
+print-measured-requires : tie.Need-print-measured-requires
+print-measured-requires c κs = search needs
 
--- src/lib.rt:22:9
+-- src/lib.rt:36:1
 same-length-2 : tie.Need-same-length-2
 same-length-2 c = search needs
 
--- src/lib.rt:22:9
+-- src/lib.rt:36:1
 returns-2 : tie.Need-returns-2
-returns-2 c = answer-room (now (c .before .before .before .before .before .before .before .before .args .rec)) (c .before .before .before .before .before .before .before .before .pre) (c .before .before .before .before .text .ensures) (c .before .if1 .left) (c .if2 .taken)
-
--- src/lib.rt:24:9
-text-requires-2 : tie.Need-text-requires-2
-text-requires-2 c κs = (c .before .before .before .before .before .before .before .before .before .pre, λ y. text-room (now (c .before .before .before .before .before .before .before .before .before .args .rec)) (c .before .before .before .before .before .before .before .before .before .pre) (c .before .before .before .before .before .text .ensures) (c .before .before .if1 .left) (c .before .if2 .left))
-
--- src/lib.rt:25:18
-cast-t13 : tie.Need-cast-t13
-cast-t13 c = search needs
-
--- src/lib.rt:13:1
-same-length-3 : tie.Need-same-length-3
-same-length-3 c = search needs
-
--- src/lib.rt:13:1
-returns-3 : tie.Need-returns-3
-returns-3 c = answer-done (now (c .before .before .before .before .before .before .before .before .before .before .before .before .args .rec)) (c .before .before .before .before .before .before .before .before .before .before .before .before .pre) (c .before .before .before .before .before .before .before .before .text .ensures) (c .before .before .before .before .before .if1 .left) (c .before .before .before .before .if2 .left) (c .before .before .text2 .ensures)
+returns-2 c = search needs
 
 pub print-known-spec : {M : Type 1} → statement M
 print-known-spec =
     tie.close
     (tie.spec
     text-requires
-    cast-t8
+    cast-t10
     same-length
     returns
-    cast-t10
+    print-measured-requires
     same-length-2
-    returns-2
-    text-requires-2
-    cast-t13
-    same-length-3
-    returns-3)
+    returns-2)
