@@ -1,5 +1,6 @@
 -- The command language as a grammar: which texts are commands, and of which tree. Relations only: no order of reading, no place, no refusal.
--- From `rules` come the tree, the classes of characters, the names of tokens and the limits; `proofs/Exact` shows that the reader accepts exactly this.
+-- From `rules` come the tree with its counts and pieces (`Commands`), the classes of characters (`Characters`), the separators, tokens and `wordMost` (`Tokens`), the
+-- separators' texts (`Printing`), bases, units and the tests of rules 1 to 4 (`Units`), and the limits (`Refusals`); `proofs/Exact` shows that the reader accepts exactly this.
 use Prim.Native.Nat.{ℕ, _+_, _*_, _≤_}
 use mathlib.Core.Path.{_≡_}
 use mathlib.Core.Bool.{Bool, true, false, _&&_, _||_}

@@ -50,8 +50,8 @@ fn pack(answer: Answer) -> u64
 pub extern "C" fn mml_read(text: &[u8], bases: &[u8], out: &mut [u8]) -> u64
     ensures { λ r. ⌜ Packs (reading (now (text .entry)) (now (bases .entry)) (now (out .entry))) (now (out .entry)) r (now (out .exit)) ⌝ }
 {
-    let answer = read(text, bases, out);
-    pack(answer)
+    let reading = read(text, bases, out);
+    pack(reading)
 }
 
 // `mml_print` of include/mml.h.
@@ -59,8 +59,8 @@ pub extern "C" fn mml_read(text: &[u8], bases: &[u8], out: &mut [u8]) -> u64
 pub extern "C" fn mml_print(rec: &[u8], out: &mut [u8]) -> u64
     ensures { λ r. ⌜ Packs (printing (now (rec .entry)) (now (out .entry))) (now (out .entry)) r (now (out .exit)) ⌝ }
 {
-    let answer = print(rec, out);
-    pack(answer)
+    let printing = print(rec, out);
+    pack(printing)
 }
 
 // `mml_order` of include/mml.h.
@@ -68,8 +68,8 @@ pub extern "C" fn mml_print(rec: &[u8], out: &mut [u8]) -> u64
 pub extern "C" fn mml_order(rec: &[u8], k: u64, out: &mut [u8]) -> u64
     ensures { λ r. ⌜ Packs (ordering (now (rec .entry)) k (now (out .entry))) (now (out .entry)) r (now (out .exit)) ⌝ }
 {
-    let answer = order(rec, k, out);
-    pack(answer)
+    let ordering = order(rec, k, out);
+    pack(ordering)
 }
 
 // `mml_count` of include/mml.h.
@@ -77,6 +77,6 @@ pub extern "C" fn mml_order(rec: &[u8], k: u64, out: &mut [u8]) -> u64
 pub extern "C" fn mml_count(rec: &[u8]) -> u64
     ensures { λ r. ⌜ PacksCount (now (rec .entry)) r ⌝ }
 {
-    let answer = count(rec);
-    pack(answer)
+    let counting = count(rec);
+    pack(counting)
 }

@@ -18,7 +18,7 @@ use Rattle.rules.specs.Commands.{Place, placeCount, mult, Block, block, placesO
 use Rattle.rules.specs.Records.{Field, field, placeFields, blockFields, many, fieldBytes, bytesOf, encode, decode, kindOfByte}
 use Rattle.rules.specs.WellFormed.{wfPieces, wfPlace, wfBlock, wellFormed, judged, recordOf}
 use Rattle.rules.specs.Orders.{blockCount, count}
-use Rattle.rules.proofs.CommandBack.{mult-pos, mult-append, c-code, c-few, c-blocks, c-places, c-count}
+use Rattle.rules.proofs.CommandBack.{mult-pos, count-all, c-code, c-few, c-blocks, c-places, c-count}
 use Rattle.rules.proofs.ValueBack.{and-both}
 use Rattle.rules.proofs.EncodeDecode.{IsRecord, record-is, record-at}
 use Rattle.walk.specs.Fields.{fits}
@@ -125,13 +125,6 @@ closes (block k ps) rest = refl
 
 abbrev state : ℕ → ℕ → Before
 state n o = record { places = n; orders = o }
-
-block-count : (b : Block) → blockCount b ≡ mult (map placeCount (placesOf b))
-block-count (block k ps) = refl
-
-pub count-all : (bs : List Block) → mult (map blockCount bs) ≡ mult (map placeCount (allPlaces bs))
-count-all [] = refl
-count-all (b ∷ bs) = ap₂ (λ x y. x * y) (block-count b) (count-all bs) ∙ sym (mult-append (placesOf b) (allPlaces bs))
 
 all-well : (s : Before) (bs : List Block) → allGood s bs ≡ true → all wfBlock bs ≡ true
 all-well s [] h = refl

@@ -12,6 +12,7 @@ use Rattle.laws.specs.Cases.{and-l, and-r, Always}
 use Rattle.laws.specs.Lists.{all, isNil, all-append}
 use Rattle.rules.specs.Commands.{Element, single, Place, place, Block, block, Command, command, leading, lastUnit, placeCount, mult, isSep, Seg, seg, first, split, cut, uncut, cutAt, pieces, isPiece, isCut, placeBase, placesOf, allPlaces}
 use Rattle.rules.specs.Groups.{isJoiner}
+use Rattle.rules.specs.Orders.{blockCount}
 use Rattle.rules.specs.Printing.{unitLex, Link, link, firstUnit, dashLinks, tailLinks, restLinks, linksLex, valueLex, moreLex, joinedLex, wordLex, nameLex, placeLex, blockLex, commandLex}
 use Rattle.rules.specs.Reading.{Placed, placed, unplaced, readPlace, readPlaces, kindOf, PlacedBlock, placedBlock, readBlock, blockSize, readBlocks, running, runningBlocks, blockOf, readSegs, readCut}
 use Rattle.rules.specs.Records.{basesOf, allBases}
@@ -314,6 +315,14 @@ mult-pos (place b nm v ∷ qs) = mul-pos (count-pos v) (mult-pos qs)
 pub mult-append : (xs ys : List Place) → mult (map placeCount (xs ++ ys)) ≡ mult (map placeCount xs) * mult (map placeCount ys)
 mult-append [] ys = omega arith
 mult-append (x ∷ xs) ys = rw (mult-append xs ys) (omega arith)
+
+-- the orders of the blocks together are those of all places
+block-count : (b : Block) → blockCount b ≡ mult (map placeCount (placesOf b))
+block-count (block k ps) = refl
+
+pub count-all : (bs : List Block) → mult (map blockCount bs) ≡ mult (map placeCount (allPlaces bs))
+count-all [] = refl
+count-all (b ∷ bs) = ap₂ (λ x y. x * y) (block-count b) (count-all bs) ∙ sym (mult-append (placesOf b) (allPlaces bs))
 
 pub running-ok : (m : ℕ) (ps : List Placed) → m * mult (map placeCount (map unplaced ps)) ≤ 65535 → running m ps ≡ ok (m * mult (map placeCount (map unplaced ps)))
 running-ok m [] h = rw mul-one

@@ -19,6 +19,14 @@ pub mod DecodeEncode
 pub mod Progression
 pub mod DirectIsList
 pub mod Lines
+pub mod Tables
+pub mod RefusalRows
+pub mod CallRows
+pub mod WellFormedIsReadable
+pub mod RefusalPlaces
+pub mod FromTheList
 pub mod OrderFits
 pub mod EncodeDecode
 pub mod TextBound
+pub mod RecordBound
+pub mod AnswersFit

@@ -31,13 +31,13 @@ use Rattle.rules.proofs.ValueLength.{wLead, wL, wL-append, full-links, 
 abbrev pub fl : List Field → ℕ
 fl fs = length (bytesOf fs)
 
-fl-append : (xs ys : List Field) → fl (xs ++ ys) ≡ fl xs + fl ys
+pub fl-append : (xs ys : List Field) → fl (xs ++ ys) ≡ fl xs + fl ys
 fl-append [] ys = omega arith
 fl-append (x ∷ xs) ys =
     length-append (fieldBytes x) (bytesOf (xs ++ ys)) ∙ ap (λ n. length (fieldBytes x) + n) (fl-append xs ys)
     ∙ omega (arith, length-append (fieldBytes x) (bytesOf xs))
 
-fl-cons : (f : Field) (fs : List Field) → fl (f ∷ fs) ≡ length (fieldBytes f) + fl fs
+pub fl-cons : (f : Field) (fs : List Field) → fl (f ∷ fs) ≡ length (fieldBytes f) + fl fs
 fl-cons f fs = length-append (fieldBytes f) (bytesOf fs)
 
 -- ---- a unit

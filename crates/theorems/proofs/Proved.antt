@@ -1,19 +1,28 @@
 -- Each demand has its proof: the theorems of `rules` and `grammar` under the demands' names.
-use mathlib.Core.Path.{_≡_, refl, sym, _∙_}
+use Prim.Native.Nat.{_≤_}
+use mathlib.Core.Path.{_≡_, sym, _∙_, subst}
 use native.Mathlib.Nat.{le-trans}
+use lib.ListN.{length}
+use Rattle.rules.proofs.AnswersFit.{reading-most, printing-most, ordering-most, counting-most}
+use Rattle.rules.proofs.CallRows.{reads-are, prints-are, orders-are, counts-are}
 use Rattle.rules.proofs.DecodeEncode.{decode-encode}
 use Rattle.rules.proofs.DirectIsList.{count-is, direct-is}
 use Rattle.rules.proofs.EncodeDecode.{record-is, record-of}
-use Rattle.rules.proofs.Lines.{lines, example-is}
+use Rattle.rules.proofs.FromTheList.{reader-list, printer-list, order-list, count-list}
+use Rattle.rules.proofs.Lines.{lines, example-is, at-limits}
 use Rattle.rules.proofs.NeverLonger.{never-longer}
 use Rattle.rules.proofs.OrderFits.{order-fits}
 use Rattle.rules.proofs.OrderWellFormed.{order-wf}
 use Rattle.rules.proofs.ReadSound.{read-wf}
+use Rattle.rules.proofs.RecordBound.{record-bound}
+use Rattle.rules.proofs.RefusalRows.{cells-are, scanned-are}
 use Rattle.rules.proofs.RoundTrip.{read-print}
 use Rattle.rules.proofs.SoleOrder.{order-sole}
+use Rattle.rules.proofs.Tables.{classes-are, ranges-are, digits-are, keyed-are, letters-are, letters-only, words-are, units-are, separators-are, unit-tags, tags-are, refusal-numbers, limits-are}
+use Rattle.rules.proofs.WellFormedIsReadable.{well-formed-is-readable}
 use Rattle.rules.specs.Orders.{orderAt}
 use Rattle.grammar.proofs.Exact.{sound, complete, unique, refused}
-use Rattle.theorems.specs.Demands.{Twelve, Example77, Exact, Unique, Refused, ReadSound, RoundTrip, NeverLonger, DecodeEncode, EncodeDecode, DirectIsList, CountIsLength, Past, OrderWellFormed, OrderFits, SoleOrder, PrintThenRead, ReadThenPrint, OrdersAreListed, Decided, CountDecided}
+use Rattle.theorems.specs.Demands.{Twelve, Example77, FromTheList, AnswersFit, Decided, CountDecided, Exact, Unique, Refused, ReadSound, WellFormedIsReadable, RoundTrip, NeverLonger, DecodeEncode, EncodeDecode, RecordBound, DirectIsList, CountIsLength, Past, OrderWellFormed, OrderFits, SoleOrder, Accepts, ReadWithoutRoom, RefusedForRoomAlone, PrintsGivenRoom, PrintWithoutRoom, PrintThenRead, ReadThenPrint, OrdersGivenRoom, OrdersAreListed, SoleOrderOnBytes, ClassesOfBytes, RangesOfBytes, DigitsOfBases, KeyedDigits, BaseLetters, WordsByRule, SeparatorTexts, TableOfTags, RefusalNumbers, Limits, CellsOfRefusals, CallRows}
 use Rattle.theorems.proofs.Calls
 
 twelve-lines : Twelve
@@ -21,6 +30,18 @@ twelve-lines = lines
 
 example-77 : Example77
 example-77 = example-is
+
+from-the-list : FromTheList
+from-the-list = (reader-list, printer-list, order-list, count-list)
+
+answers-fit : AnswersFit
+answers-fit = (reading-most, printing-most, ordering-most, counting-most)
+
+decided : Decided
+decided result old a b new also p q = (p .answers ∙ sym (q .answers), p .holds ∙ sym (q .holds))
+
+count-decided : CountDecided
+count-decided r a b p q = p ∙ sym q
 
 exact : Exact
 exact letters text c = (sound letters text c, complete letters text c)
@@ -34,6 +55,9 @@ refused-has-none = refused
 read-sound : ReadSound
 read-sound = read-wf
 
+readable : WellFormedIsReadable
+readable = well-formed-is-readable
+
 round-trip : RoundTrip
 round-trip = read-print
 
@@ -46,11 +70,19 @@ decode-after-encode c h = (decode-encode c h, record-of c h)
 encode-after-decode : EncodeDecode
 encode-after-decode r c h = let is = record-is r c h in (is .bytes, is .well)
 
+record-bounded : RecordBound
+record-bounded r c h =
+    let is = record-is r c h in
+    subst (λ x. length x ≤ 65536) (is .bytes) (record-bound c (is .well))
+
 direct-is-list : DirectIsList
 direct-is-list = direct-is
 
 count-is-length : CountIsLength
 count-is-length = count-is
+
+past-the-count : Past
+past-the-count = Calls.past
 
 order-well-formed : OrderWellFormed
 order-well-formed = order-wf
@@ -62,8 +94,20 @@ sole-order : SoleOrder
 sole-order c k h few =
     (read-print (orderAt c k) (order-wf c k h) (le-trans (order-fits c k h) few), order-sole c k)
 
-past-the-count : Past
-past-the-count = Calls.past
+accepted : Accepts
+accepted = Calls.accepts
+
+read-needs-room : ReadWithoutRoom
+read-needs-room = Calls.read-without-room
+
+for-room-alone : RefusedForRoomAlone
+for-room-alone = Calls.refused-for-room-alone
+
+printed-given-room : PrintsGivenRoom
+printed-given-room = Calls.prints-given-room
+
+print-needs-room : PrintWithoutRoom
+print-needs-room = Calls.print-without-room
 
 printed-then-read : PrintThenRead
 printed-then-read = Calls.print-then-read
@@ -71,11 +115,47 @@ printed-then-read = Calls.print-then-read
 read-then-printed : ReadThenPrint
 read-then-printed = Calls.read-then-print
 
+ordered-given-room : OrdersGivenRoom
+ordered-given-room = Calls.orders-given-room
+
 orders-listed : OrdersAreListed
 orders-listed = Calls.orders-are-listed
 
-decided : Decided
-decided result old a b new also p q = (p .answers ∙ sym (q .answers), p .holds ∙ sym (q .holds))
+sole-on-bytes : SoleOrderOnBytes
+sole-on-bytes = Calls.sole-order-on-bytes
 
-count-decided : CountDecided
-count-decided r a b p q = p ∙ sym q
+classes-of-bytes : ClassesOfBytes
+classes-of-bytes = classes-are
+
+ranges-of-bytes : RangesOfBytes
+ranges-of-bytes = ranges-are
+
+digits-of-bases : DigitsOfBases
+digits-of-bases = digits-are
+
+keyed-digits : KeyedDigits
+keyed-digits = keyed-are
+
+base-letters : BaseLetters
+base-letters = (letters-are .0, letters-are .1, letters-are .2, letters-are .3, letters-only .0)
+
+words-by-rule : WordsByRule
+words-by-rule = (words-are, units-are)
+
+separator-texts : SeparatorTexts
+separator-texts = separators-are
+
+table-of-tags : TableOfTags
+table-of-tags = tags-are
+
+refusals-by-name : RefusalNumbers
+refusals-by-name = refusal-numbers
+
+limits : Limits
+limits = (limits-are, at-limits)
+
+cells-of-refusals : CellsOfRefusals
+cells-of-refusals = (cells-are, scanned-are)
+
+rows-of-calls : CallRows
+rows-of-calls = (reads-are, prints-are, orders-are, counts-are)

@@ -1,21 +1,27 @@
--- What was asked for, as types: the user's words, and below them the statement. `proofs/Proved` has a term of each, under the same name in small letters.
+-- What was asked for, as types: the user's words, and below them the statement. `proofs/Proved` has a term of each, under a name in small letters.
+-- First the three demands; then the same over the four calls, on bytes; last the witnesses, tables from the paper for what reader, grammar and printer share.
 use Prim.Native.Nat.{ℕ, _≤_, _<_}
 use mathlib.Core.Path.{_≡_}
-use mathlib.Core.Bool.{true}
+use mathlib.Core.Bool.{Bool, true, false, _&&_, not}
 use mathlib.Core.List.{List, [], _∷_, map}
 use mathlib.Core.Option.{some}
 use lib.ListN.{length, getD}
 use Rattle.rules.specs.declared.Answer.{Answer}
-use Rattle.rules.specs.Refusals.{Res, ok, bad, mapR, mostText, noSuchOrder}
-use Rattle.rules.specs.Characters.{bytes}
+use Rattle.rules.specs.Refusals.{Res, ok, bad, mapR, wrongLetter, tooLong, notPermitted, unclosed, noToken, noEnd, afterEnd, wrongCode, kindDiffers, wrongName, wrongShape, unreadable, tooBig, groupBroken, tooMany, tooManyOrders, noRoom, notWellFormed, noSuchOrder, mostLetters, mostText, mostWord, mostPrefixed, mostString, moreOfCode, moreOfName, mostBlocks, mostPlaces, mostLeading, mostElements, mostArguments, mostOrders, mostValue, mostFraction}
+use Rattle.rules.specs.Characters.{bytes, isLetter, isDigit, isAlnum, isEffector, isPermitted, isWordChar, isSymbolChar}
+use Rattle.rules.specs.Units.{rD, rH, rO, rB, letter, baseOf, radixAt, baseAt, isKey}
 use Rattle.rules.specs.Commands.{Command}
-use Rattle.rules.specs.Reading.{read}
+use Rattle.rules.specs.Reading.{read, readAny}
 use Rattle.rules.specs.Records.{encode, decode, bases}
 use Rattle.rules.specs.WellFormed.{wellFormed, recordOf}
 use Rattle.rules.specs.Printing.{print}
 use Rattle.rules.specs.Orders.{orders, orderAt, count}
-use Rattle.rules.specs.Answers.{reading, printing, ordering, counting, Promise, Counts}
-use Rattle.rules.proofs.Lines.{found, stated, twelve, example, example77}
+use Rattle.rules.specs.Answers.{reading, printing, ordering, counting, answered, valueOf, Promise, Counts}
+use Rattle.rules.proofs.Lines.{found, stated, twelve, example, example77, answer, due, limits, tally, expected}
+use Rattle.rules.proofs.FromTheList.{ReaderRefuses, PrinterRefuses, OrderRefuses, CountRefuses}
+use Rattle.rules.proofs.RefusalRows.{cells, scanned}
+use Rattle.rules.proofs.CallRows.{readFound, readStated, reads, printFound, printStated, prints, orderFound, orderStated, ordersAsked, countFound, countStated, countsAsked}
+use Rattle.rules.proofs.Tables.{opens, tested, printed, classes, members, ranges, baseFound, baseStated, baseRows, five, isBase, wordFound, wordStated, wordRows, unitFound, unitStated, unitRows, sepFound, sepStated, sepRows, whole, wholeRecord}
 use Rattle.grammar.specs.Grammar.{Follows}
 
 -- ======== the lines
@@ -27,6 +33,33 @@ Twelve = map found twelve ≡ map stated twelve
 -- "`SET-ATT:LIN=7-1&&-3,LEV=3.5;` with DD gives 77 bytes"
 abbrev pub Example77 : Type 0
 Example77 = mapR encode (read (bytes "DD") example) ≡ ok example77
+
+-- ======== demand 1: each call takes all inputs, and its answer is decided
+
+-- demand 1, "one number from the list": each call refuses with a number of its own list, at a place inside what that number speaks of
+abbrev pub FromTheList : Type 0
+FromTheList =
+    ((letters text old : List ℕ) (n p : ℕ) → reading text letters old ≡ bad n p → ReaderRefuses letters text old n p)
+    × ((r old : List ℕ) (n p : ℕ) → printing r old ≡ bad n p → PrinterRefuses old n p)
+    × ((r : List ℕ) (k : ℕ) (old : List ℕ) (n p : ℕ) → ordering r k old ≡ bad n p → OrderRefuses r k old n p)
+    × ((r : List ℕ) (n p : ℕ) → counting r ≡ bad n p → CountRefuses n p)
+
+-- bytes written, number of orders or place: every value fits the 32 bits that the answer has for it
+abbrev pub AnswersFit : Type 0
+AnswersFit =
+    ((text letters old : List ℕ) → valueOf (answered (mapR length (reading text letters old))) ≤ 65536)
+    × ((r old : List ℕ) → valueOf (answered (mapR length (printing r old))) ≤ 65536)
+    × ((r : List ℕ) (k : ℕ) (old : List ℕ) → valueOf (answered (mapR length (ordering r k old))) ≤ 65536)
+    × ((r : List ℕ) → valueOf (answered (counting r)) ≤ 65536)
+
+-- "Any two results satisfying it are proved equal"
+abbrev pub Decided : Type 0
+Decided =
+    (result : Res (List ℕ)) (old : List ℕ) (a b : Answer) (new also : List ℕ) → Promise result old a new → Promise result old b also
+    → (a ≡ b) × (new ≡ also)
+
+abbrev pub CountDecided : Type 0
+CountDecided = (r : List ℕ) (a b : Answer) → Counts r a → Counts r b → a ≡ b
 
 -- ======== demand 2: commands and records
 
@@ -46,6 +79,11 @@ Refused = (letters text : List ℕ) (n p : ℕ) (c : Command) → read letters t
 abbrev pub ReadSound : Type 0
 ReadSound = (letters text : List ℕ) (c : Command) → read letters text ≡ ok c → wellFormed c ≡ true
 
+-- "all rules and limits here hold (text length apart)": a command is well formed exactly where its printed text, length apart, is read back to it
+abbrev pub WellFormedIsReadable : Type 0
+WellFormedIsReadable =
+    (c : Command) → (wellFormed c ≡ true → readAny (bases c) (print c) ≡ ok c) × (readAny (bases c) (print c) ≡ ok c → wellFormed c ≡ true)
+
 -- "The printer turns every well-formed record whose text fits 1,024 bytes into a command that reads back, with the record's own bases, to the same record."
 abbrev pub RoundTrip : Type 0
 RoundTrip = (c : Command) → wellFormed c ≡ true → length (print c) ≤ mostText → read (bases c) (print c) ≡ ok c
@@ -60,6 +98,10 @@ DecodeEncode = (c : Command) → wellFormed c ≡ true → (decode (encode c) �
 
 abbrev pub EncodeDecode : Type 0
 EncodeDecode = (r : List ℕ) (c : Command) → recordOf r ≡ ok c → (encode c ≡ r) × (wellFormed c ≡ true)
+
+-- no record is longer than 65,536 bytes, whatever text gave it
+abbrev pub RecordBound : Type 0
+RecordBound = (r : List ℕ) (c : Command) → recordOf r ≡ ok c → length r ≤ 65536
 
 -- ======== demand 3: orders
 
@@ -88,7 +130,46 @@ SoleOrder =
     (c : Command) (k : ℕ) → wellFormed c ≡ true → length (print c) ≤ mostText
     → (read (bases (orderAt c k)) (print (orderAt c k)) ≡ ok (orderAt c k)) × (orders (orderAt c k) ≡ orderAt c k ∷ [])
 
--- ======== the same of the four calls, and that their promises decide everything
+-- ======== the same of the four calls, on bytes
+
+-- some tree follows, the bytes are its record, and the buffer has room for them
+pub record Accepted (letters text old r : List ℕ) : Type 0 where
+  pub tree : Command
+  pub follows : Follows letters text tree
+  pub bytes : encode tree ≡ r
+  pub room : length r ≤ length old
+
+-- "A command is accepted exactly when it follows the rules, and its record is the one the rules give."
+abbrev pub Accepts : Type 0
+Accepts =
+    (letters text old r : List ℕ) → (reading text letters old ≡ ok r → Accepted letters text old r) × (Accepted letters text old r → reading text letters old ≡ ok r)
+
+-- "then 17 if the buffer is too short, its place the bytes needed"
+abbrev pub ReadWithoutRoom : Type 0
+ReadWithoutRoom =
+    (letters text old : List ℕ) (c : Command) → Follows letters text c → length old < length (encode c) → reading text letters old ≡ bad noRoom (length (encode c))
+
+-- a command that follows the rules is refused for want of room alone
+abbrev pub RefusedForRoomAlone : Type 0
+RefusedForRoomAlone =
+    (letters text old : List ℕ) (c : Command) (n p : ℕ) → Follows letters text c → reading text letters old ≡ bad n p → (n ≡ noRoom) × (p ≡ length (encode c))
+
+-- the record is well formed, its text is that one, "fits 1,024 bytes", and the buffer has room for it
+pub record Printable (r old text : List ℕ) : Type 0 where
+  pub tree : Command
+  pub is : recordOf r ≡ ok tree
+  pub prints : print tree ≡ text
+  pub few : length text ≤ mostText
+  pub room : length text ≤ length old
+
+-- "The printer turns every well-formed record whose text fits 1,024 bytes into a command": it prints exactly these
+abbrev pub PrintsGivenRoom : Type 0
+PrintsGivenRoom = (r old text : List ℕ) → (printing r old ≡ ok text → Printable r old text) × (Printable r old text → printing r old ≡ ok text)
+
+abbrev pub PrintWithoutRoom : Type 0
+PrintWithoutRoom =
+    (r old : List ℕ) (c : Command) → recordOf r ≡ ok c → length (print c) ≤ mostText → length old < length (print c)
+    → printing r old ≡ bad noRoom (length (print c))
 
 -- what was printed of a record is read back to the record's bytes, with its own bases
 abbrev pub PrintThenRead : Type 0
@@ -101,17 +182,101 @@ ReadThenPrint =
     (text letters old new r : List ℕ) (c : Command) → reading text letters old ≡ ok r → recordOf r ≡ ok c → length text ≤ length new
     → (printing r new ≡ ok (print c)) × (length (print c) ≤ length text)
 
+-- the record is well formed, k is below its count, o is its order k, and the buffer has room for it
+pub record Ordered (r : List ℕ) (k : ℕ) (old o : List ℕ) : Type 0 where
+  pub tree : Command
+  pub is : recordOf r ≡ ok tree
+  pub below : k < count tree
+  pub bytes : encode (orderAt tree k) ≡ o
+  pub room : length o ≤ length old
+
+abbrev pub OrdersGivenRoom : Type 0
+OrdersGivenRoom = (r : List ℕ) (k : ℕ) (old o : List ℕ) → (ordering r k old ≡ ok o → Ordered r k old o) × (Ordered r k old o → ordering r k old ≡ ok o)
+
 -- the count that is answered is the length of the record's list, and order k is its k-th entry
 abbrev pub OrdersAreListed : Type 0
 OrdersAreListed =
     (r old : List ℕ) (c d : Command) (k : ℕ) → recordOf r ≡ ok c → k < length (orders c) → length (encode (getD (orders c) k d)) ≤ length old
     → (counting r ≡ ok (length (orders c))) × (ordering r k old ≡ ok (encode (getD (orders c) k d)))
 
--- "Any two results satisfying it are proved equal"
-abbrev pub Decided : Type 0
-Decided =
-    (result : Res (List ℕ)) (old : List ℕ) (a b : Answer) (new also : List ℕ) → Promise result old a new → Promise result old b also
-    → (a ≡ b) × (new ≡ also)
+-- the order o is printed to the text, which is read back to o with o's own bases; o counts one order, and that is o
+pub record Sole (o new also : List ℕ) : Type 0 where
+  pub tree : Command
+  pub is : recordOf o ≡ ok tree
+  pub text : List ℕ
+  pub printed : printing o new ≡ ok text
+  pub readBack : reading text (bases tree) also ≡ ok o
+  pub counted : counting o ≡ ok 1
+  pub only : ordering o 0 also ≡ ok o
 
-abbrev pub CountDecided : Type 0
-CountDecided = (r : List ℕ) (a b : Answer) → Counts r a → Counts r b → a ≡ b
+-- "an order, printed and read, has itself as its sole order": wherever the record itself was printed into the buffer
+abbrev pub SoleOrderOnBytes : Type 0
+SoleOrderOnBytes =
+    (r o t old new also : List ℕ) (k : ℕ) → ordering r k old ≡ ok o → printing r new ≡ ok t → length o ≤ length also → Sole o new also
+
+-- ======== witnesses: characters, digits, letters
+
+-- "The classes of bytes 0 to 127 are one constant table."; no byte from 128 on is permitted
+abbrev pub ClassesOfBytes : Type 0
+ClassesOfBytes = map tested classes ≡ map printed classes
+
+-- the same as ranges: permitted, effectors, letters, digits, a word's characters, rule 3's, rule 4's, and those that "stand only in strings and comments"
+abbrev pub RangesOfBytes : Type 0
+RangesOfBytes =
+    map members (isPermitted ∷ isEffector ∷ isLetter ∷ isDigit ∷ isWordChar ∷ isAlnum ∷ isSymbolChar ∷ (λ c. isPermitted c && not (opens c)) ∷ []) ≡ ranges
+
+-- "Hexadecimal digits are 0-9, A-F.": each base's size, letter, digits and their values, read and written
+abbrev pub DigitsOfBases : Type 0
+DigitsOfBases = map baseFound baseRows ≡ map baseStated baseRows
+
+-- "Keyed digits are 0-9, `*`, `#`, A-D."
+abbrev pub KeyedDigits : Type 0
+KeyedDigits = members isKey ≡ bytes "#*0123456789ABCD"
+
+-- "each D, H, O, B or K"
+abbrev pub BaseLetters : Type 0
+BaseLetters =
+    (map letter five ≡ bytes "DHOBK") × (map baseOf (bytes "DHOBK") ≡ map some five) × (map baseAt (bytes "DHOBK") ≡ five)
+    × (map radixAt (bytes "DHOB") ≡ rD ∷ rH ∷ rO ∷ rB ∷ []) × (members (λ c. isBase (baseOf c)) ≡ bytes "BDHKO")
+
+-- rules 3 and 4, index numbers and pieces of names, on words; rules 1 to 5 under each base
+abbrev pub WordsByRule : Type 0
+WordsByRule = (map wordFound wordRows ≡ map wordStated wordRows) × (map unitFound unitRows ≡ map unitStated unitRows)
+
+-- "Separators, longest first: `&&-`, `&&`, `&-`, `&`, `++`, `-`, `,`, `:`, `=`, `;`."
+abbrev pub SeparatorTexts : Type 0
+SeparatorTexts = map sepFound sepRows ≡ map sepStated sepRows
+
+-- ======== witnesses: the record
+
+-- a command with every tag, both kinds of block and every base letter: its record, and back
+abbrev pub TableOfTags : Type 0
+TableOfTags =
+    (mapR encode (read (bytes "DHOBK") whole) ≡ ok wholeRecord) × (mapR print (recordOf wholeRecord) ≡ ok whole)
+    × (mapR bases (recordOf wholeRecord) ≡ ok (bytes "DHOBKDD"))
+
+-- ======== witnesses: refusals and calls
+
+-- "Refusal numbers", in the order of the paper's tables
+abbrev pub RefusalNumbers : Type 0
+RefusalNumbers =
+    (wrongLetter ∷ tooLong ∷ notPermitted ∷ unclosed ∷ noToken ∷ noEnd ∷ afterEnd ∷ wrongCode ∷ kindDiffers ∷ wrongName ∷ wrongShape ∷ unreadable ∷ tooBig
+    ∷ groupBroken ∷ tooMany ∷ tooManyOrders ∷ noRoom ∷ notWellFormed ∷ noSuchOrder ∷ [])
+    ≡ 1 ∷ 2 ∷ 3 ∷ 4 ∷ 5 ∷ 6 ∷ 7 ∷ 8 ∷ 9 ∷ 10 ∷ 11 ∷ 12 ∷ 13 ∷ 14 ∷ 15 ∷ 16 ∷ 17 ∷ 18 ∷ 19 ∷ []
+
+-- the limits by name, and for each the last line that is read and the first that is refused
+abbrev pub Limits : Type 0
+Limits =
+    ((mostLetters ∷ mostText ∷ mostWord ∷ mostPrefixed ∷ mostString ∷ moreOfCode ∷ moreOfName ∷ mostBlocks ∷ mostPlaces ∷ mostLeading ∷ mostElements
+    ∷ mostArguments ∷ mostOrders ∷ mostValue ∷ mostFraction ∷ [])
+    ≡ 32 ∷ 1024 ∷ 32 ∷ 34 ∷ 80 ∷ 2 ∷ 3 ∷ 8 ∷ 32 ∷ 3 ∷ 64 ∷ 4096 ∷ 65535 ∷ 4294967295 ∷ 9 ∷ []) × (map tally limits ≡ map expected limits)
+
+-- a row for each cell of the reader's tables, with its place
+abbrev pub CellsOfRefusals : Type 0
+CellsOfRefusals = (map answer cells ≡ map due cells) × (map tally scanned ≡ map expected scanned)
+
+-- the calls with their lent buffer: number, value and every byte of the buffer
+abbrev pub CallRows : Type 0
+CallRows =
+    (map readFound reads ≡ map readStated reads) × (map printFound prints ≡ map printStated prints)
+    × (map orderFound ordersAsked ≡ map orderStated ordersAsked) × (map countFound countsAsked ≡ map countStated countsAsked)

@@ -1,0 +1,66 @@
+-- The C interface's one number decides: number and value are its quotient and remainder by 2^32, since every call's value is below 2^32; so two results that meet
+-- `Packs` or `PacksCount` are equal.
+use Prim.Native.Nat.{ℕ, _+_, _*_, _/_, _%_, _^_, _<_, _≤_}
+use mathlib.Core.Path.{_≡_, refl, sym, ap, _∙_}
+use mathlib.Core.List.{List, [], _∷_, map}
+use native.Mathlib.Omega.{arith}
+use lib.ListN.{length}
+use Rattle.rules.specs.declared.Answer.{Answer}
+use Rattle.rules.specs.declared.Answer.the-variants.{Done, Refused}
+use Rattle.rules.specs.Refusals.{Res, mapR}
+use Rattle.rules.specs.Answers.{reading, printing, ordering, counting, answered, buffered, numberOf, valueOf}
+use Rattle.rules.proofs.AnswersFit.{reading-most, printing-most, ordering-most, counting-most}
+use Rattle.mml.specs.Interface.{packed, Packs, PacksCount}
+
+-- answers and their numbers, worked out by hand: 17 times 4,294,967,296, and 4; the greatest value
+pub packed-are :
+    map packed (Done 0 ∷ Done 77 ∷ Done 4294967295 ∷ Refused 1 0 ∷ Refused 17 4 ∷ Refused 19 65535 ∷ [])
+    ≡ 0 ∷ 77 ∷ 4294967295 ∷ 4294967296 ∷ 73014444036 ∷ 81604444159 ∷ []
+packed-are = refl
+
+-- the number's upper part is the refusal's number (0: success), its lower part the value
+pub parts-back : (n v : ℕ) → v < 2 ^ 32 → ((n * 2 ^ 32 + v) / 2 ^ 32 ≡ n) × ((n * 2 ^ 32 + v) % 2 ^ 32 ≡ v)
+parts-back n v h = (omega arith, omega arith)
+
+pub number-back : (a : Answer) → valueOf a < 2 ^ 32 → packed a / 2 ^ 32 ≡ numberOf a
+number-back a h = (parts-back (numberOf a) (valueOf a) h) .0
+
+pub value-back : (a : Answer) → valueOf a < 2 ^ 32 → packed a % 2 ^ 32 ≡ valueOf a
+value-back a h = (parts-back (numberOf a) (valueOf a) h) .1
+
+-- two answers of one number are alike in number and value
+pub packed-decides : (a b : Answer) → valueOf a < 2 ^ 32 → valueOf b < 2 ^ 32 → packed a ≡ packed b → (numberOf a ≡ numberOf b) × (valueOf a ≡ valueOf b)
+packed-decides a b h k e =
+    (sym (number-back a h) ∙ ap (λ x. x / 2 ^ 32) e ∙ number-back b k, sym (value-back a h) ∙ ap (λ x. x % 2 ^ 32) e ∙ value-back b k)
+
+-- ---- the calls: what `MML_NUMBER` and `MML_VALUE` of include/mml.h take from the number is the answer's number and value
+
+-- the number's parts are those of the answer
+abbrev pub Parts : ℕ → Answer → Type 0
+Parts r a = (r / 2 ^ 32 ≡ numberOf a) × (r % 2 ^ 32 ≡ valueOf a)
+
+packed-parts : (r : ℕ) (a : Answer) → r ≡ packed a → valueOf a ≤ 65536 → Parts r a
+packed-parts r a e h =
+    let k : valueOf a < 2 ^ 32 = omega arith in
+    (ap (λ x. x / 2 ^ 32) e ∙ number-back a k, ap (λ x. x % 2 ^ 32) e ∙ value-back a k)
+
+pub read-parts : (text letters old : List ℕ) (r : ℕ) (new : List ℕ) → Packs (reading text letters old) old r new
+    → Parts r (answered (mapR length (reading text letters old)))
+read-parts text letters old r new p = packed-parts r (answered (mapR length (reading text letters old))) (p .answers) (reading-most text letters old)
+
+pub print-parts : (rec old : List ℕ) (r : ℕ) (new : List ℕ) → Packs (printing rec old) old r new → Parts r (answered (mapR length (printing rec old)))
+print-parts rec old r new p = packed-parts r (answered (mapR length (printing rec old))) (p .answers) (printing-most rec old)
+
+pub order-parts : (rec : List ℕ) (k : ℕ) (old : List ℕ) (r : ℕ) (new : List ℕ) → Packs (ordering rec k old) old r new
+    → Parts r (answered (mapR length (ordering rec k old)))
+order-parts rec k old r new p = packed-parts r (answered (mapR length (ordering rec k old))) (p .answers) (ordering-most rec k old)
+
+pub count-parts : (rec : List ℕ) (r : ℕ) → PacksCount rec r → Parts r (answered (counting rec))
+count-parts rec r p = packed-parts r (answered (counting rec)) p (counting-most rec)
+
+-- "Any two results satisfying it are proved equal"
+pub packs-decided : (result : Res (List ℕ)) (old : List ℕ) (r s : ℕ) (new also : List ℕ) → Packs result old r new → Packs result old s also → (r ≡ s) × (new ≡ also)
+packs-decided result old r s new also p q = (p .answers ∙ sym (q .answers), p .holds ∙ sym (q .holds))
+
+pub count-decided : (rec : List ℕ) (r s : ℕ) → PacksCount rec r → PacksCount rec s → r ≡ s
+count-decided rec r s p q = p ∙ sym q

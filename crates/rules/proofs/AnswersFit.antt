@@ -1,0 +1,54 @@
+-- Every answer's value is at most 65,536, so it fits 32 bits: a place is one in a text, an index, or a number of bytes or of orders, and no record is longer.
+use Prim.Native.Nat.{ℕ, _≤_}
+use mathlib.Core.Path.{_≡_}
+use mathlib.Core.List.{List}
+use native.Mathlib.Omega.{arith}
+use lib.ListN.{length}
+use Rattle.rules.specs.Refusals.{Res, ok, bad, mapR}
+use Rattle.rules.specs.Answers.{reading, printing, ordering, counting, answered, valueOf}
+use Rattle.rules.proofs.FromTheList.{ReaderRefuses, PrinterRefuses, OrderRefuses, CountRefuses, Record, Text, Orders, reading-comes, printing-comes, ordering-comes, counting-comes}
+use Rattle.rules.proofs.RefusalPlaces.{Comes}
+
+-- a call's value, where its refusals' places and what it writes are no more
+value-most : (P : ℕ → ℕ → Type 0) (Q : List ℕ → Type 0) (r : Res (List ℕ)) → Comes P Q r → ((n p : ℕ) → P n p → p ≤ 65536)
+    → ((w : List ℕ) → Q w → length w ≤ 65536) → valueOf (answered (mapR length r)) ≤ 65536
+value-most P Q (ok w) h places writes = writes w h
+value-most P Q (bad n p) h places writes = places n p h
+
+reader-most : (letters text old : List ℕ) (n p : ℕ) → ReaderRefuses letters text old n p → p ≤ 65536
+reader-most letters text old n p (ReaderRefuses.aLetter h k) = omega arith
+reader-most letters text old n p (ReaderRefuses.tooLong h) = omega arith
+reader-most letters text old n p (ReaderRefuses.noEnd h) = omega arith
+reader-most letters text old n p (ReaderRefuses.aByte z h k) = omega arith
+reader-most letters text old n p (ReaderRefuses.noRoom h k) = k
+
+pub reading-most : (text letters old : List ℕ) → valueOf (answered (mapR length (reading text letters old))) ≤ 65536
+reading-most text letters old =
+    value-most (ReaderRefuses letters text old) Record (reading text letters old) (reading-comes letters text old) (reader-most letters text old) (λ w h. h)
+
+printer-most : (old : List ℕ) (n p : ℕ) → PrinterRefuses old n p → p ≤ 65536
+printer-most old n p PrinterRefuses.notWellFormed = omega arith
+printer-most old n p PrinterRefuses.tooLong = omega arith
+printer-most old n p (PrinterRefuses.noRoom h k) = omega arith
+
+pub printing-most : (r old : List ℕ) → valueOf (answered (mapR length (printing r old))) ≤ 65536
+printing-most r old = value-most (PrinterRefuses old) Text (printing r old) (printing-comes r old) (printer-most old) (λ w h. omega arith)
+
+-- what is counted is at most 65,535
+counted-most : (c : Res ℕ) (n : ℕ) → Comes CountRefuses Orders c → c ≡ ok n → n ≤ 65536
+counted-most c n h e = let k : Orders n = rw e at h in omega arith
+
+order-most : (r : List ℕ) (k : ℕ) (old : List ℕ) (n p : ℕ) → OrderRefuses r k old n p → p ≤ 65536
+order-most r k old n p OrderRefuses.notWellFormed = omega arith
+order-most r k old n p (OrderRefuses.noSuchOrder e h) = counted-most (counting r) p (counting-comes r) e
+order-most r k old n p (OrderRefuses.noRoom h m) = m
+
+pub ordering-most : (r : List ℕ) (k : ℕ) (old : List ℕ) → valueOf (answered (mapR length (ordering r k old))) ≤ 65536
+ordering-most r k old = value-most (OrderRefuses r k old) Record (ordering r k old) (ordering-comes r k old) (order-most r k old) (λ w h. h)
+
+count-most : (c : Res ℕ) → Comes CountRefuses Orders c → valueOf (answered c) ≤ 65536
+count-most (ok n) h = omega arith
+count-most (bad n p) CountRefuses.notWellFormed = omega arith
+
+pub counting-most : (r : List ℕ) → valueOf (answered (counting r)) ≤ 65536
+counting-most r = count-most (counting r) (counting-comes r)

@@ -1,0 +1,185 @@
+-- "one number from the list": what each call may refuse with, and where; the numbers are the paper's, written out, and a place lies in what its number speaks of.
+use Prim.Native.Nat.{ℕ, _+_, _<_, _≤_}
+use mathlib.Core.Path.{_≡_, refl}
+use mathlib.Core.Bool.{Bool, true, false, _&&_}
+use mathlib.Core.List.{List, [], _∷_}
+use mathlib.Core.Option.{Option, none, some}
+use native.Mathlib.Omega.{arith}
+use lib.Dec.{leb, ltb}
+use lib.ListN.{length}
+use borrow.Author.Tests.{leb-true, leb-false, ltb-false}
+use Rattle.laws.specs.Cases.{byBool, and-l}
+use Rattle.laws.specs.Keys.{anyOf}
+use Rattle.laws.specs.Lists.{eqL}
+use Rattle.rules.specs.Refusals.{Res, ok, bad, _>>=_, mapR, guard, mostText}
+use Rattle.rules.specs.Tokens.{Token, semi, State, idle, run, firstOff, scan}
+use Rattle.rules.specs.Units.{Base}
+use Rattle.rules.specs.Commands.{Command, command, cutAt}
+use Rattle.rules.specs.Reading.{readLetters, readCut, read}
+use Rattle.rules.specs.Records.{encode, decode}
+use Rattle.rules.specs.WellFormed.{wellFormed, judged, recordOf}
+use Rattle.rules.specs.Printing.{print}
+use Rattle.rules.specs.Orders.{orderAt, count}
+use Rattle.rules.specs.Answers.{fitted, reading, printing, ordering, counting}
+use Rattle.rules.proofs.CommandBack.{count-all, c-count}
+use Rattle.rules.proofs.EncodeDecode.{record-is}
+use Rattle.rules.proofs.OrderWellFormed.{order-wf}
+use Rattle.rules.proofs.ReadSound.{read-wf}
+use Rattle.rules.proofs.RecordBound.{record-bound}
+use Rattle.rules.proofs.RefusalPlaces.{Comes, Whatever, comes-more, bind-comes, map-comes, guard-comes, comes-bad, comes-self, Before, cut-in, off-comes, run-comes, cut-comes, letters-come}
+
+-- ---- the lists
+
+-- reader: 1 at an index of the list of letters, 32 at most; 2 at 1,024 of a longer text; of a text that is no longer, 6 at its length and the others at a byte of it; 17 at more
+-- bytes than the buffer has, and no more than a record can have
+pub data ReaderRefuses (letters text old : List ℕ) : ℕ → ℕ → Type 0 where
+  aLetter : {p : ℕ} → p < length letters → p ≤ 32 → ReaderRefuses letters text old 1 p
+  tooLong : 1024 < length text → ReaderRefuses letters text old 2 1024
+  noEnd : length text ≤ 1024 → ReaderRefuses letters text old 6 (length text)
+  aByte : {n p : ℕ} → anyOf (3 ∷ 4 ∷ 5 ∷ 7 ∷ 8 ∷ 9 ∷ 10 ∷ 11 ∷ 12 ∷ 13 ∷ 14 ∷ 15 ∷ 16 ∷ []) n ≡ true → p < length text → length text ≤ 1024
+      → ReaderRefuses letters text old n p
+  noRoom : {p : ℕ} → length old < p → p ≤ 65536 → ReaderRefuses letters text old 17 p
+
+-- "Printer: 18 record not well formed (place 0), 2 (place 1,024), 17."
+pub data PrinterRefuses (old : List ℕ) : ℕ → ℕ → Type 0 where
+  notWellFormed : PrinterRefuses old 18 0
+  tooLong : PrinterRefuses old 2 1024
+  noRoom : {p : ℕ} → length old < p → p ≤ 1024 → PrinterRefuses old 17 p
+
+-- "Order k: 18, 19 if k is not below the count (place the count), 17."
+pub data OrderRefuses (r : List ℕ) (k : ℕ) (old : List ℕ) : ℕ → ℕ → Type 0 where
+  notWellFormed : OrderRefuses r k old 18 0
+  noSuchOrder : {p : ℕ} → counting r ≡ ok p → p ≤ k → OrderRefuses r k old 19 p
+  noRoom : {p : ℕ} → length old < p → p ≤ 65536 → OrderRefuses r k old 17 p
+
+-- "Count: 18"
+pub data CountRefuses : ℕ → ℕ → Type 0 where
+  notWellFormed : CountRefuses 18 0
+
+-- ---- the reader
+
+-- a text that is scanned has at most 1,024 bytes, and its tokens stand in it
+abbrev Scanned : List ℕ → List Token → Type 0
+Scanned cs ts = Before (length cs) ts × (length cs ≤ 1024)
+
+pub scan-comes : (P : ℕ → ℕ → Type 0) (cs : List ℕ) → (1024 < length cs → P 2 1024)
+    → ((n p : ℕ) → anyOf (3 ∷ 4 ∷ 5 ∷ 7 ∷ 8 ∷ 9 ∷ 10 ∷ 11 ∷ 12 ∷ 13 ∷ 14 ∷ 15 ∷ 16 ∷ []) n ≡ true → p < length cs → length cs ≤ 1024 → P n p)
+    → Comes P (Scanned cs) (scan cs)
+unfolding scan
+scan-comes P cs long hit =
+    byBool (leb (length cs) 1024)
+    (λ y.
+    let few : length cs ≤ 1024 = leb-true (length cs) 1024 y in
+    let inside : (n p : ℕ) → anyOf (3 ∷ 4 ∷ 5 ∷ 7 ∷ 8 ∷ 9 ∷ 10 ∷ 11 ∷ 12 ∷ 13 ∷ 14 ∷ 15 ∷ 16 ∷ []) n ≡ true → p < length cs → P n p
+    = λ n p z h. hit n p z h few in
+    rw (y, scan)
+    (bind-comes P Whatever (Scanned cs) (firstOff 0 cs) (λ b. run idle 0 cs) (off-comes P (length cs) inside cs 0 (omega arith))
+    (λ b z. comes-more P (Before (length cs)) (Scanned cs) (run idle 0 cs) (run-comes P (length cs) inside cs idle 0 tt (omega arith)) (λ ts x. (x, few)))))
+    (λ y. rw (y, scan) (long (omega (arith, leb-false (length cs) 1024 y))))
+
+pub read-comes : (letters text old : List ℕ) → Comes (ReaderRefuses letters text old) Whatever (read letters text)
+unfolding read
+read-comes letters text old =
+    bind-comes (ReaderRefuses letters text old) Whatever Whatever (readLetters 0 letters) _
+    (letters-come (ReaderRefuses letters text old) (length letters) (λ p h k. aLetter h k) 0 letters (omega arith) (omega arith))
+    (λ bs x.
+    bind-comes (ReaderRefuses letters text old) (Scanned text) Whatever (scan text) _
+    (scan-comes (ReaderRefuses letters text old) text (λ h. tooLong h) (λ n p z h few. aByte z h few))
+    (λ ts y.
+    cut-comes (ReaderRefuses letters text old) (length text) (λ n p z h. aByte z h (y .1)) bs (length text) (cutAt semi ts) (noEnd (y .1))
+    (cut-in (length text) semi ts (y .0))))
+
+-- 17 comes last, at the bytes needed
+pub fitted-comes : (P : ℕ → ℕ → Type 0) (Q : List ℕ → Type 0) (old : List ℕ) (r : Res (List ℕ)) → Comes P Q r
+    → ((w : List ℕ) → Q w → length old < length w → P 17 (length w)) → Comes P Q (fitted old r)
+fitted-comes P Q old r h k =
+    bind-comes P Q Q r _ h
+    (λ w q.
+    guard-comes P Q (leb (length w) (length old)) 17 (length w) (λ _. ok w)
+    (λ y. k w q (omega (arith, leb-false (length w) (length old) y))) (λ y. q))
+
+-- no longer than a record can be; than a text can be
+abbrev pub Record : List ℕ → Type 0
+Record w = length w ≤ 65536
+
+abbrev pub Text : List ℕ → Type 0
+Text w = length w ≤ 1024
+
+pub reading-comes : (letters text old : List ℕ) → Comes (ReaderRefuses letters text old) Record (reading text letters old)
+unfolding reading
+reading-comes letters text old =
+    fitted-comes (ReaderRefuses letters text old) Record old (mapR encode (read letters text))
+    (map-comes (ReaderRefuses letters text old) (λ c. read letters text ≡ ok c) Record encode (read letters text)
+    (comes-self (ReaderRefuses letters text old) Whatever (read letters text) (read-comes letters text old))
+    (λ c q. record-bound c (read-wf letters text c q)))
+    (λ w q h. noRoom h q)
+
+pub reader-list : (letters text old : List ℕ) (n p : ℕ) → reading text letters old ≡ bad n p → ReaderRefuses letters text old n p
+reader-list letters text old n p e =
+    comes-bad (ReaderRefuses letters text old) Record (reading text letters old) n p (reading-comes letters text old) e
+
+-- ---- the others
+
+-- a record that is judged is well formed, or refused with 18 at 0
+pub record-comes : (P : ℕ → ℕ → Type 0) (r : List ℕ) → P 18 0 → Comes P (λ c. wellFormed c ≡ true) (recordOf r)
+unfolding recordOf
+record-comes P r h = go (decode r)
+  where
+    go : (o : Option Command) → Comes P (λ c. wellFormed c ≡ true) (judged r o)
+    go none = h
+    go (some c) =
+        guard-comes P (λ d. wellFormed d ≡ true) (wellFormed c && eqL (encode c) r) 18 0 (λ _. ok c) (λ _. h)
+        (λ y. and-l (wellFormed c) (eqL (encode c) r) y)
+
+-- what the printer has to write
+abbrev toPrint : List ℕ → Res (List ℕ)
+toPrint r = recordOf r >>= λ c. guard (leb (length (print c)) mostText) 2 mostText >>= λ _. ok (print c)
+
+pub printing-comes : (r old : List ℕ) → Comes (PrinterRefuses old) Text (printing r old)
+unfolding printing
+printing-comes r old =
+    fitted-comes (PrinterRefuses old) Text old (toPrint r)
+    (bind-comes (PrinterRefuses old) (λ c. wellFormed c ≡ true) Text (recordOf r) (λ c. guard (leb (length (print c)) mostText) 2 mostText >>= λ _. ok (print c))
+    (record-comes (PrinterRefuses old) r notWellFormed)
+    (λ c x.
+    guard-comes (PrinterRefuses old) Text (leb (length (print c)) 1024) 2 1024 (λ _. ok (print c)) (λ y. tooLong)
+    (λ y. leb-true (length (print c)) 1024 y)))
+    (λ w q h. noRoom h q)
+
+pub printer-list : (r old : List ℕ) (n p : ℕ) → printing r old ≡ bad n p → PrinterRefuses old n p
+printer-list r old n p e = comes-bad (PrinterRefuses old) Text (printing r old) n p (printing-comes r old) e
+
+-- what order k has to write
+abbrev toOrder : List ℕ → ℕ → Res (List ℕ)
+toOrder r k = recordOf r >>= λ c. guard (ltb k (count c)) 19 (count c) >>= λ _. ok (encode (orderAt c k))
+
+pub ordering-comes : (r : List ℕ) (k : ℕ) (old : List ℕ) → Comes (OrderRefuses r k old) Record (ordering r k old)
+unfolding ordering counting
+ordering-comes r k old =
+    fitted-comes (OrderRefuses r k old) Record old (toOrder r k)
+    (bind-comes (OrderRefuses r k old) (λ c. recordOf r ≡ ok c) Record (recordOf r)
+    (λ c. guard (ltb k (count c)) 19 (count c) >>= λ _. ok (encode (orderAt c k)))
+    (comes-self (OrderRefuses r k old) (λ c. wellFormed c ≡ true) (recordOf r) (record-comes (OrderRefuses r k old) r notWellFormed))
+    (λ c x.
+    guard-comes (OrderRefuses r k old) Record (ltb k (count c)) 19 (count c) (λ _. ok (encode (orderAt c k)))
+    (λ y. noSuchOrder (rw x) (omega (arith, ltb-false k (count c) y)))
+    (λ y. record-bound (orderAt c k) (order-wf c k ((record-is r c x) .well)))))
+    (λ w q h. noRoom h q)
+
+pub order-list : (r : List ℕ) (k : ℕ) (old : List ℕ) (n p : ℕ) → ordering r k old ≡ bad n p → OrderRefuses r k old n p
+order-list r k old n p e = comes-bad (OrderRefuses r k old) Record (ordering r k old) n p (ordering-comes r k old) e
+
+-- "if the orders pass 65,535"
+abbrev pub Orders : ℕ → Type 0
+Orders n = n ≤ 65535
+
+pub counting-comes : (r : List ℕ) → Comes CountRefuses Orders (counting r)
+unfolding counting
+counting-comes r =
+    map-comes CountRefuses (λ c. wellFormed c ≡ true) Orders count (recordOf r) (record-comes CountRefuses r notWellFormed) few
+  where
+    few : (c : Command) → wellFormed c ≡ true → Orders (count c)
+    few (command c bs) h = omega (arith, count-all bs, c-count c bs h)
+
+pub count-list : (r : List ℕ) (n p : ℕ) → counting r ≡ bad n p → CountRefuses n p
+count-list r n p e = comes-bad CountRefuses Orders (counting r) n p (counting-comes r) e
