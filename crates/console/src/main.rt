@@ -1,60 +1,171 @@
-// The operator's and the integrator's console. Each line of standard input is a command or, for
-// one verb, a record in hexadecimal. `./mml help` says what the verbs do with it.
-mod arguments;
-mod help;
+// The program behind `./mml`. Each line of standard input is a command or, for some verbs, a record
+// in hexadecimal; crate `verbs` says what is done with it. It is started with four words that the
+// script has judged, MANNER VERB K BASES:
+//
+//     MANNER  alone  nothing is told at the end
+//             told   at the end one digit goes to descriptor 3, where the script reads it
+//             typed  the same, and a prompt stands on standard error before each line
+//     VERB    check, record, orders, order, text or bases
+//     K       the order that `order` asks for; the other verbs do not use it
+//     BASES   the base letters, perhaps none
+//
+// The digit is the script's status: 0 every line was served, 1 at least one was refused, 2 the words
+// are wrong, 3 input or output failed. No Rattle program ends with a status of its own.
+mod words;
 
-use arguments::Asked;
+use libc::STDERR_FILENO;
 use lines::BLOCK;
 use lines::Got;
+use lines::Input;
+use verbs::Outcome;
 use verbs::Verb;
+use words::Asked;
+use words::Manner;
 
 // The longest command has 1,024 bytes. Of a longer line one more is kept, and the library refuses.
 const COMMAND_LINE: usize = 1025;
-// The longest list of bases has 32 letters. Of a longer one, too, one more is kept.
-const BASES: usize = 33;
 // Two digits for each byte of the longest record that is served, 65,536 bytes.
 const RECORD_LINE: usize = 131072;
+// The longest list of bases has 32 letters. Of a longer one, too, one more is kept.
+const BASES: usize = 33;
 
-// Serves what the arguments ask.
+// The descriptor where the script reads the digit.
+const SCRIPT: i32 = 3;
+
+// Serves what the words ask, and tells what came of it.
 fn main() {
-    match arguments::read() {
-        Asked::Commands(verb) => serve_commands(verb),
-        Asked::Records => serve_records(),
-        Asked::Help => help::write(),
-        Asked::Wrong => {}
+    let manner = words::how();
+    match words::what(manner) {
+        Asked::Commands(verb) => tell(manner, digit(serve_commands(manner, verb))),
+        Asked::Records(verb) => tell(manner, digit(serve_records(manner, verb))),
+        Asked::Wrong => tell(manner, b'2'),
+    }
+}
+
+// The digit of what came of all lines.
+fn digit(outcome: Outcome) -> u8 {
+    match outcome {
+        Outcome::Served => b'0',
+        Outcome::Refused => b'1',
+        Outcome::Failed => b'3',
+    }
+}
+
+// Tells the script the digit, if it listens.
+fn tell(manner: Manner, digit: u8) {
+    match manner {
+        Manner::Alone => {}
+        Manner::Unknown => {}
+        _ => {
+            io::write_all(SCRIPT, &[digit]);
+        }
     }
 }
 
 // Serves each line as a command.
-fn serve_commands(verb: Verb) {
+fn serve_commands(manner: Manner, verb: Verb) -> Outcome {
     let mut letters = [0u8; BASES];
-    let n = arguments::bases(verb, &mut letters);
+    let n = words::bases(&mut letters);
     let mut block = io::buffer();
     let mut line = [0u8; COMMAND_LINE];
-    serve(verb, lines::front(&letters, n), &mut block, &mut line);
+    serve(
+        manner,
+        verb,
+        lines::front(&letters, n),
+        &mut block,
+        &mut line,
+    )
 }
 
 // Serves each line as a record.
-fn serve_records() {
+fn serve_records(manner: Manner, verb: Verb) -> Outcome {
     let mut block = io::buffer();
     let mut line = [0u8; RECORD_LINE];
-    serve(Verb::Text, b"", &mut block, &mut line);
+    serve(manner, verb, b"", &mut block, &mut line)
 }
 
-// Serves one line after the other. No input has as many lines as there are turns.
-fn serve(verb: Verb, bases: &[u8], block: &mut [u8; BLOCK], line: &mut [u8]) {
+// Serves one line after the other, and answers the worst that came of one. No input has as many
+// lines as there are turns.
+fn serve(
+    manner: Manner,
+    verb: Verb,
+    bases: &[u8],
+    block: &mut [u8; BLOCK],
+    line: &mut [u8],
+) -> Outcome {
     let mut input = lines::start();
+    let mut worst = Outcome::Served;
     let mut turns = u64::MAX;
     while 0 < turns {
-        match lines::next_line(block, input, line) {
+        match next_line(manner, block, input, line) {
             Got::End => {
-                return;
+                return end(manner, worst);
+            }
+            Got::Failed => {
+                return unread();
             }
             Got::Line { kept, long, rest } => {
-                verbs::serve(verb, bases, lines::front(line, kept), long);
+                let outcome = verbs::serve(verb, bases, lines::front(line, kept), long);
+                if is_failure(outcome) {
+                    return unwritten();
+                }
+                worst = worse(worst, outcome);
                 input = rest;
             }
         }
         turns -= 1;
+    }
+    Outcome::Failed
+}
+
+// Asks for the next line, and reads it.
+fn next_line(manner: Manner, block: &mut [u8; BLOCK], input: Input, line: &mut [u8]) -> Got {
+    if prompt(manner, b"mml> ") {
+        return lines::next_line(block, input, line);
+    }
+    Got::Failed
+}
+
+// Writes a text to the operator who types, and answers whether it was written, or need not be.
+fn prompt(manner: Manner, text: &[u8]) -> bool {
+    match manner {
+        Manner::Typed => io::write_all(STDERR_FILENO, text),
+        _ => true,
+    }
+}
+
+// What came of all lines, at the end of the input. What is typed next stands in a new line.
+fn end(manner: Manner, worst: Outcome) -> Outcome {
+    if prompt(manner, b"\n") {
+        return worst;
+    }
+    Outcome::Failed
+}
+
+// Says that the input cannot be read.
+fn unread() -> Outcome {
+    io::write_all(STDERR_FILENO, b"mml: standard input cannot be read\n");
+    Outcome::Failed
+}
+
+// Says that an answer could not be written.
+fn unwritten() -> Outcome {
+    io::write_all(STDERR_FILENO, b"mml: an answer cannot be written\n");
+    Outcome::Failed
+}
+
+// Whether an answer could not be written.
+fn is_failure(outcome: Outcome) -> bool {
+    match outcome {
+        Outcome::Failed => true,
+        _ => false,
+    }
+}
+
+// What came of the lines so far and of one more, of which neither failed.
+fn worse(so_far: Outcome, more: Outcome) -> Outcome {
+    match more {
+        Outcome::Served => so_far,
+        _ => more,
     }
 }

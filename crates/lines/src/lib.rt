@@ -1,12 +1,18 @@
-// The lines of standard input, however they arrive: from a file or a pipe, typed or pasted.
-mod digits;
+// What the programs over the library share: the lines of standard input, however they arrive (from
+// a file or a pipe, typed or pasted), digits, and a record's own base letters.
+mod letters;
+mod numbers;
 
-pub use digits::Decoded;
-pub use digits::Number;
-pub use digits::decimal;
-pub use digits::decode;
-pub use digits::write_hex;
+pub use letters::own_bases;
+pub use numbers::Decoded;
+pub use numbers::Number;
+pub use numbers::decimal;
+pub use numbers::decode;
+pub use numbers::write_hex;
 ghost use Prim.Native.Nat.{_≤_};
+ghost use mathlib.Core.Path.{_≡_};
+ghost use mathlib.Core.Bool.{false};
+ghost use lib.ListN.{take};
 use libc::STDIN_FILENO;
 
 // How many bytes are read at a time.
@@ -14,14 +20,17 @@ pub const BLOCK: usize = 4096;
 
 const NEWLINE: u8 = b'\n';
 
-// How far the block that was read last is served: its bytes from `at` up to `end` are left.
+// How far the block that was read last is served: its bytes from `at` up to `end` are left. The
+// input is over where the last read brought nothing, and failed where that read failed.
 pub struct Input {
     pub at: usize,
     pub end: usize,
     pub over: bool,
+    pub failed: bool,
 }
 
-// A line without its newline. Its first `kept` bytes stand in the buffer; it has `long` in all.
+// A line without its newline: its first `kept` bytes stand in the buffer, and it has `long` in all.
+// Or the end of the input, or a read that failed.
 pub enum Got {
     Line {
         kept: usize,
@@ -29,20 +38,24 @@ pub enum Got {
         rest: Input,
     },
     End,
+    Failed,
 }
 
 // Nothing is read yet.
-pub fn start() -> Input {
+pub fn start() -> Input
+    ensures { λ r. ⌜ r ≡ record { at = 0; end = 0; over = false; failed = false } ⌝ }
+{
     Input {
         at: 0,
         end: 0,
         over: false,
+        failed: false,
     }
 }
 
 // The next line. It is served as soon as its newline has come, so that a typed line does not wait
-// for the next one; what stands behind the last newline is a line too, unless it is empty. No line
-// takes as many reads as there are turns.
+// for the next one; what stands behind the last newline is a line too, unless it is empty. A line
+// that a failed read cuts off is none. No line takes as many reads as there are turns.
 pub fn next_line(block: &mut [u8; BLOCK], input: Input, line: &mut [u8]) -> Got {
     let mut rest = input;
     let mut long: usize = 0;
@@ -50,10 +63,7 @@ pub fn next_line(block: &mut [u8; BLOCK], input: Input, line: &mut [u8]) -> Got 
     while 0 < turns {
         rest = filled(block, rest);
         if rest.over {
-            if long == 0 {
-                return Got::End;
-            }
-            return served(long, line.len(), rest);
+            return last(long, line.len(), rest);
         }
         let at = rest.at;
         let end = rest.end;
@@ -67,11 +77,13 @@ pub fn next_line(block: &mut [u8; BLOCK], input: Input, line: &mut [u8]) -> Got 
         rest.at = end;
         turns -= 1;
     }
-    Got::End
+    Got::Failed
 }
 
 // The first n bytes, or all where there are fewer.
-pub fn front(bytes: &[u8], n: usize) -> &[u8] {
+pub fn front(bytes: &[u8], n: usize) -> &[u8]
+    ensures { λ r. ⌜ now r ≡ take n (now (bytes .entry)) ⌝ }
+{
     if n <= bytes.len() {
         &bytes[0..n]
     } else {
@@ -79,39 +91,51 @@ pub fn front(bytes: &[u8], n: usize) -> &[u8] {
     }
 }
 
-// The input with bytes to serve: where none are left it reads once, and is over if nothing came.
+// The input with bytes to serve: where none are left it reads once.
 fn filled(block: &mut [u8; BLOCK], input: Input) -> Input
     ensures { λ r. ⌜ (r .at ≤ r .end) × (r .end ≤ 4096) ⌝ }
 {
     let at = input.at;
     let end = input.end;
-    if input.over {
-        return Input {
-            at: 0,
-            end: 0,
-            over: true,
-        };
-    }
     if at < end {
         if end <= BLOCK {
             return input;
         }
     }
-    let n = read_block(block);
+    if input.over {
+        return read_nothing(input.failed);
+    }
+    read_block(block)
+}
+
+// The input after one read of standard input.
+fn read_block(block: &mut [u8]) -> Input
+    requires { do ⌜ (← ⟦block.len()⟧) ≤ 4096 ⌝ }
+    ensures { λ r. ⌜ (r .at ≤ r .end) × (r .end ≤ 4096) ⌝ }
+{
+    let got = libc::read(STDIN_FILENO, block);
+    let n = io::count(got, block);
+    if n == 0 {
+        return read_nothing(got < 0);
+    }
     Input {
         at: 0,
         end: n,
-        over: n == 0,
+        over: false,
+        failed: false,
     }
 }
 
-// How many bytes one read of standard input puts into the block: none at its end or if it fails.
-fn read_block(block: &mut [u8]) -> usize
-    requires { do ⌜ (← ⟦block.len()⟧) ≤ 4096 ⌝ }
-    ensures { λ r. ⌜ r ≤ 4096 ⌝ }
+// The input after a read that brought nothing.
+fn read_nothing(failed: bool) -> Input
+    ensures { λ r. ⌜ (r .at ≤ r .end) × (r .end ≤ 4096) ⌝ }
 {
-    let got = libc::read(STDIN_FILENO, block);
-    io::count(got, block)
+    Input {
+        at: 0,
+        end: 0,
+        over: true,
+        failed: failed,
+    }
 }
 
 // Where the line that goes on at `at` ends: at its newline, or at `end`.
@@ -144,6 +168,17 @@ fn keep(block: &[u8; BLOCK], at: usize, stop: usize, line: &mut [u8], long: usiz
         to += 1;
         i += 1;
     }
+}
+
+// What is left when the input is over: a line of `long` bytes, or none.
+fn last(long: usize, room: usize, rest: Input) -> Got {
+    if rest.failed {
+        return Got::Failed;
+    }
+    if long == 0 {
+        return Got::End;
+    }
+    served(long, room, rest)
 }
 
 // A line of `long` bytes, of which a buffer with `room` bytes has kept what fits.

@@ -1,6 +1,6 @@
 // Runs the lines of standard input through the library, and writes what came of each. A line is
-// `BASES|COMMAND`, or `#RECORD` with the record in hexadecimal.
-ghost use Prim.Native.Nat.{_<_, _≤_};
+// `BASES|COMMAND`, `@BASES|COMMAND` where the orders are asked for, or `#RECORD` with the record in
+// hexadecimal.
 use libc::STDOUT_FILENO;
 use lines::BLOCK;
 use lines::Decoded;
@@ -19,9 +19,6 @@ const MOST_PLACES: usize = 32;
 // So many orders of a record are all written.
 const FEW: u64 = 8;
 
-// The tag of the fields that hold a place's base letter.
-const PLACE_TAG: u8 = 3;
-
 // Runs standard input.
 fn main() {
     let mut block = io::buffer();
@@ -36,6 +33,10 @@ fn run(block: &mut [u8; BLOCK], line: &mut [u8]) {
     while 0 < turns {
         match lines::next_line(block, input, line) {
             Got::End => {
+                return;
+            }
+            Got::Failed => {
+                io::write_all(STDOUT_FILENO, b"the input cannot be read\n");
                 return;
             }
             Got::Line {
@@ -53,11 +54,10 @@ fn run(block: &mut [u8; BLOCK], line: &mut [u8]) {
 
 // Runs a line, and ends what is written of it.
 fn run_line(line: &[u8]) {
-    if byte(line, 0) == b'#' {
-        run_record(behind(line, 0));
-    } else {
-        let bar = find_bar(line);
-        run_command(front(line, bar), behind(line, bar));
+    match byte(line, 0) {
+        b'#' => run_record(behind(line, 0)),
+        b'@' => run_command(behind(line, 0), true),
+        _ => run_command(line, false),
     }
     io::write_all(STDOUT_FILENO, b"\n");
 }
@@ -88,14 +88,25 @@ fn byte(bytes: &[u8], at: usize) -> u8 {
     if at < bytes.len() { bytes[at] } else { 0 }
 }
 
-// Reads a command, and writes its record or the refusal.
-fn run_command(bases: &[u8], text: &[u8]) {
+// Reads a command behind its bases and the bar, and writes its record or its orders; or the refusal.
+fn run_command(line: &[u8], orders: bool) {
+    let bar = find_bar(line);
+    let text = behind(line, bar);
     io::write_all(STDOUT_FILENO, text);
     io::write_all(STDOUT_FILENO, b" -> ");
     let mut record = io::large_buffer();
-    match mml::read(text, bases, &mut record) {
-        Answer::Done(n) => write_record(front(&record, n as usize)),
+    match mml::read(text, front(line, bar), &mut record) {
+        Answer::Done(n) => write_accepted(front(&record, n as usize), orders),
         Answer::Refused(number, place) => write_refusal(number, place),
+    }
+}
+
+// Writes what is asked for of an accepted command.
+fn write_accepted(record: &[u8], orders: bool) {
+    if orders {
+        write_orders(record);
+    } else {
+        write_record(record);
     }
 }
 
@@ -142,46 +153,11 @@ fn write_count(n: u32) {
 fn is_read_again(record: &[u8], text: &[u8]) -> bool {
     let mut bases = [0u8; MOST_PLACES];
     let mut again = io::large_buffer();
-    let n = own_bases(record, &mut bases);
+    let n = lines::own_bases(record, &mut bases);
     match mml::read(text, front(&bases, n), &mut again) {
         Answer::Done(k) => check::same(front(&again, k as usize), record),
         Answer::Refused(_, _) => false,
     }
-}
-
-// Puts the base letters of a record's places into `bases`, and answers how many.
-fn own_bases(record: &[u8], bases: &mut [u8]) -> usize {
-    let mut at = 0;
-    let mut n = 0;
-    while at < record.len() {
-        n = keep_base(record, at, bases, n);
-        at += 3 + content_length(record, at);
-    }
-    n
-}
-
-// Puts the base letter of the field at `at`, if that is a place, behind the first n.
-fn keep_base(record: &[u8], at: usize, bases: &mut [u8], n: usize) -> usize
-    requires { do ⌜ at < (← ⟦record.len()⟧) ⌝ }
-{
-    if record[at] != PLACE_TAG {
-        return n;
-    }
-    if bases.len() <= n {
-        return n;
-    }
-    bases[n] = byte(record, at + 3);
-    n + 1
-}
-
-// The number of content bytes of the field at `at`.
-fn content_length(record: &[u8], at: usize) -> usize
-    requires { do ⌜ at < (← ⟦record.len()⟧) ⌝ }
-    ensures { λ r. ⌜ r < 65536 ⌝ }
-{
-    let high = byte(record, at + 1) as usize;
-    let low = byte(record, at + 2) as usize;
-    high * 256 + low
 }
 
 // Takes a record in hexadecimal, and writes its number of orders and the orders.

@@ -7,37 +7,67 @@ use Rattle.console.proofs.serve.Statement.{statement}
 use Rattle.console.proofs.serve.Tie as tie
 
 abbrev Inv-loop : tie.InvT-loop
-Inv-loop verb bases block₀ line₀ input₀ turns₀ block line input turns = length line ≡ length line₀
+Inv-loop manner verb bases block₀ line₀ input₀ worst₀ turns₀ block line input worst turns = length line ≡ length line₀
 
 abbrev μ-loop : tie.MeasureT-loop
-μ-loop verb bases block₀ line₀ input₀ turns₀ block line input turns = turns
+μ-loop manner verb bases block₀ line₀ input₀ worst₀ turns₀ block line input worst turns = turns
 
 start-requires : tie.Need-start-requires Inv-loop μ-loop
-start-requires c κs = search needs
+start-requires c κs = tt
 
 loop-holds : tie.Need-loop-holds Inv-loop μ-loop
 loop-holds c = search needs
 
 next-line-requires : tie.Need-next-line-requires Inv-loop μ-loop
-next-line-requires c κs = search needs
+next-line-requires c κs = tt
 
 enum-told : tie.Need-enum-told Inv-loop μ-loop
 enum-told c = search needs
+
+end-requires : tie.Need-end-requires Inv-loop μ-loop
+end-requires c κs = tt
 
 same-length : tie.Need-same-length Inv-loop μ-loop
 same-length c = search needs
 
 returns : tie.Need-returns Inv-loop μ-loop
-returns c = search needs
+returns c = tt
+
+enum-told-2 : tie.Need-enum-told-2 Inv-loop μ-loop
+enum-told-2 c = search needs
+
+unread-requires : tie.Need-unread-requires Inv-loop μ-loop
+unread-requires c κs = tt
+
+same-length-2 : tie.Need-same-length-2 Inv-loop μ-loop
+same-length-2 c = search needs
+
+returns-2 : tie.Need-returns-2 Inv-loop μ-loop
+returns-2 c = tt
 
 enum-known-kept : tie.Need-enum-known-kept Inv-loop μ-loop
 enum-known-kept c = search needs
 
 front-requires : tie.Need-front-requires Inv-loop μ-loop
-front-requires c κs = search needs
+front-requires c κs = tt
 
 serve-requires : tie.Need-serve-requires Inv-loop μ-loop
-serve-requires c κs = search needs
+serve-requires c κs = tt
+
+is-failure-requires : tie.Need-is-failure-requires Inv-loop μ-loop
+is-failure-requires c κs = tt
+
+unwritten-requires : tie.Need-unwritten-requires Inv-loop μ-loop
+unwritten-requires c κs = tt
+
+same-length-3 : tie.Need-same-length-3 Inv-loop μ-loop
+same-length-3 c = search needs
+
+returns-3 : tie.Need-returns-3 Inv-loop μ-loop
+returns-3 c = tt
+
+worse-requires : tie.Need-worse-requires Inv-loop μ-loop
+worse-requires c κs = tt
 
 sub-turns : tie.Need-sub-turns Inv-loop μ-loop
 sub-turns c = search needs
@@ -48,11 +78,11 @@ loop-less c = search needs
 loop-again : tie.Need-loop-again Inv-loop μ-loop
 loop-again c = search needs
 
-same-length-2 : tie.Need-same-length-2 Inv-loop μ-loop
-same-length-2 c = search needs
+same-length-4 : tie.Need-same-length-4 Inv-loop μ-loop
+same-length-4 c = search needs
 
-returns-2 : tie.Need-returns-2 Inv-loop μ-loop
-returns-2 c = search needs
+returns-4 : tie.Need-returns-4 Inv-loop μ-loop
+returns-4 c = tt
 
 pub serve-spec : {M : Type 1} → statement M
 serve-spec =
@@ -64,13 +94,23 @@ serve-spec =
     loop-holds
     next-line-requires
     enum-told
+    end-requires
     same-length
     returns
+    enum-told-2
+    unread-requires
+    same-length-2
+    returns-2
     enum-known-kept
     front-requires
     serve-requires
+    is-failure-requires
+    unwritten-requires
+    same-length-3
+    returns-3
+    worse-requires
     sub-turns
     loop-less
     loop-again
-    same-length-2
-    returns-2)
+    same-length-4
+    returns-4)

@@ -16,22 +16,16 @@ loop-holds : tie.Need-loop-holds Inv-loop μ-loop
 loop-holds c = search needs
 
 filled-requires : tie.Need-filled-requires Inv-loop μ-loop
-filled-requires c κs = search needs
+filled-requires c κs = tt
+
+last-requires : tie.Need-last-requires Inv-loop μ-loop
+last-requires c κs = tt
 
 same-length : tie.Need-same-length Inv-loop μ-loop
 same-length c = search needs
 
 returns : tie.Need-returns Inv-loop μ-loop
-returns c = search needs
-
-served-requires : tie.Need-served-requires Inv-loop μ-loop
-served-requires c κs = search needs
-
-same-length-2 : tie.Need-same-length-2 Inv-loop μ-loop
-same-length-2 c = search needs
-
-returns-2 : tie.Need-returns-2 Inv-loop μ-loop
-returns-2 c = search needs
+returns c = tt
 
 line-end-requires : tie.Need-line-end-requires Inv-loop μ-loop
 line-end-requires c κs = search needs
@@ -43,19 +37,19 @@ sub-sum : tie.Need-sub-sum Inv-loop μ-loop
 sub-sum c = search needs
 
 sum-requires : tie.Need-sum-requires Inv-loop μ-loop
-sum-requires c κs = search needs
+sum-requires c κs = tt
 
 add-rest : tie.Need-add-rest Inv-loop μ-loop
 add-rest c = search needs
 
-served-requires-2 : tie.Need-served-requires-2 Inv-loop μ-loop
-served-requires-2 c κs = search needs
+served-requires : tie.Need-served-requires Inv-loop μ-loop
+served-requires c κs = tt
 
-same-length-3 : tie.Need-same-length-3 Inv-loop μ-loop
-same-length-3 c = search needs
+same-length-2 : tie.Need-same-length-2 Inv-loop μ-loop
+same-length-2 c = search needs
 
-returns-3 : tie.Need-returns-3 Inv-loop μ-loop
-returns-3 c = search needs
+returns-2 : tie.Need-returns-2 Inv-loop μ-loop
+returns-2 c = tt
 
 sub-turns : tie.Need-sub-turns Inv-loop μ-loop
 sub-turns c = search needs
@@ -66,11 +60,11 @@ loop-less c = search needs
 loop-again : tie.Need-loop-again Inv-loop μ-loop
 loop-again c = search needs
 
-same-length-4 : tie.Need-same-length-4 Inv-loop μ-loop
-same-length-4 c = search needs
+same-length-3 : tie.Need-same-length-3 Inv-loop μ-loop
+same-length-3 c = search needs
 
-returns-4 : tie.Need-returns-4 Inv-loop μ-loop
-returns-4 c = search needs
+returns-3 : tie.Need-returns-3 Inv-loop μ-loop
+returns-3 c = tt
 
 pub next-line-spec : {M : Type 1} → statement M
 next-line-spec =
@@ -80,21 +74,19 @@ next-line-spec =
     μ-loop
     loop-holds
     filled-requires
+    last-requires
     same-length
     returns
-    served-requires
-    same-length-2
-    returns-2
     line-end-requires
     keep-requires
     sub-sum
     sum-requires
     add-rest
-    served-requires-2
-    same-length-3
-    returns-3
+    served-requires
+    same-length-2
+    returns-2
     sub-turns
     loop-less
     loop-again
-    same-length-4
-    returns-4)
+    same-length-3
+    returns-3)
