@@ -1,5 +1,5 @@
 /*
- * mml.h - the C interface of the verified MML command translator (libmml.a).
+ * mml.h - the C interface of the verified MML command translator (libmml.a), version 1.0.
  *
  * A command is a line of text as an operator types it, for example
  *
@@ -25,11 +25,15 @@
  * The inputs are never written.
  *
  * POINTERS. A pointer may be anything valid for its length in bytes; there is no alignment and
- * nothing is zero-terminated. For length 0 pass a non-null pointer. out must not overlap an
- * input.
+ * nothing is zero-terminated. With length 0 a pointer may be anything, NULL too: nothing is
+ * read or written through it. out must not overlap an input.
  *
  * THREADS AND MEMORY. The library has no state and allocates nothing: any number of threads
- * may call at once, also from an interrupt or a signal handler that has the stack for it.
+ * may call at once, also from an interrupt or a signal handler that has the stack for it:
+ * every call was measured to take less than 16 KiB.
+ *
+ * LINKING. libmml.a is x86-64 code for Linux. It calls one function that it does not have,
+ * memset, which every C library has; without a C library, give it one.
  *
  * SIZES. An out of these sizes always suffices:
  *
@@ -38,6 +42,53 @@
  *     mml_order   record_len bytes: an order is never longer than its record
  *
  * With less, refusal 17 tells the bytes needed: call first with out_len 0 to learn the size.
+ *
+ * RECORDS. A record is a sequence of fields:
+ *
+ *     1 byte   the tag
+ *     2 bytes  the length of the content, high byte first
+ *     content  so many bytes; numbers in it have the high byte first
+ *
+ *     tag  field           content
+ *      1   code piece      an identifier
+ *      2   block           P if its places are unnamed, N if they are named
+ *      3   place           its base letter: D, H, O, B or K
+ *      4   name piece      an identifier; behind the first also an index number, all digits
+ *      5   single element  empty: the element is one argument
+ *      6   range element   upper end (4 bytes), increment (4 bytes)
+ *      7   numeral         base letter D, H, O or B (1 byte), number of fraction digits (1 byte),
+ *                          value (4 bytes): the whole number without the full stop, so that
+ *                          3.50 is D, 2, 350; fraction digits only with D, 0 to 9 of them
+ *      8   keyed numeral   its characters: 0 to 9, *, #, A to D
+ *      9   identifier      its characters: a letter, then letters and digits
+ *     10   symbolic name   its characters: letters, digits, + # %
+ *     11   string          its bytes, a doubled quotation mark once; perhaps empty
+ *
+ * They stand in the order of the text:
+ *
+ *     command  1 to 3 code pieces, then up to 8 blocks
+ *     block    the field block, then its places; at most 32 places in all blocks together
+ *     place    the field place, then in a block N 1 to 4 name pieces, then the value;
+ *              an omitted place (in a block P only) has no value: the next field is a place or
+ *              a block, or the record ends
+ *     value    1 to 64 elements
+ *     element  the field single or range element, then 1 to 4 units, as many as in every other
+ *              element of the value; the units of a compound argument are all there, also
+ *              where the text has the short form
+ *     unit     a field with a tag from 7 to 11
+ *
+ * In a range element the last unit is a numeral without fraction digits, the lower end; upper
+ * is not below it, and the increment is at least 1. The range names lower, lower + increment
+ * and so on, none above upper. In an order every element is single, and every value has one.
+ *
+ * A word has at most 32 characters, a string at most 80 bytes, a value at most 4,096
+ * arguments, a command at most 65,535 orders. The letters of the places (tag 3), in their
+ * order, are the record's own base letters: with them the text that mml_print gives is read
+ * back. examples/c/fields.c walks a record and collects them.
+ *
+ * A record that comes from elsewhere may be anything. Every call judges all of it first and
+ * answers MML_RECORD where it is not well formed; where mml_count succeeds, the tags, lengths
+ * and contents are as said here.
  */
 
 #ifndef MML_H
@@ -50,6 +101,11 @@
 extern "C" {
 #endif
 
+/* The version of the interface. */
+#define MML_VERSION "1.0"
+#define MML_VERSION_MAJOR 1
+#define MML_VERSION_MINOR 0
+
 /* The longest text that is read or printed, in bytes. */
 #define MML_TEXT_MAX 1024u
 
@@ -59,11 +115,16 @@ extern "C" {
 /* The most base letters, and so the most places of a command. */
 #define MML_BASES_MAX 32u
 
-/* The number of an answer: 0 for success, else the refusal. */
-#define MML_NUMBER(answer) ((unsigned)((uint64_t)(answer) >> 32))
-
-/* The value of an answer: bytes written, number of orders, or the place of the refusal. */
-#define MML_VALUE(answer) ((uint32_t)((uint64_t)(answer) & 0xFFFFFFFFu))
+/* MML_NUMBER, the number of an answer: 0 for success, else the refusal.
+   MML_VALUE, the value of an answer: bytes written, number of orders, or the place of the
+   refusal. The answer is a uint64_t. */
+#ifdef __cplusplus
+#define MML_NUMBER(answer) (static_cast<unsigned>((answer) >> 32))
+#define MML_VALUE(answer) (static_cast<uint32_t>((answer) & 0xFFFFFFFFu))
+#else
+#define MML_NUMBER(answer) ((unsigned)((answer) >> 32))
+#define MML_VALUE(answer) ((uint32_t)((answer) & 0xFFFFFFFFu))
+#endif
 
 /*
  * The refusals. "Place" is counted in bytes of the text from 0 unless said otherwise.
@@ -77,7 +138,7 @@ enum {
     /* A base letter is none of D, H, O, B, K, or there is a 33rd. Place: its index. */
     MML_BASE_LETTER = 1,
 
-    /* The text is longer than 1,024 bytes. Place: 1,024. */
+    /* The text is longer than 1,024 bytes; of mml_print: it would be. Place: 1,024. */
     MML_TEXT_TOO_LONG = 2,
 
     /* A byte is not permitted: only 9 to 13 and 32 to 126 are. Place: the byte. */
@@ -111,7 +172,7 @@ enum {
        Place: the first token that does not fit. */
     MML_ALTERNATION = 11,
 
-    /* A unit is neither a numeral nor an identifier nor a symbolic name. Place: the unit. */
+    /* A unit cannot be read under the base of its place. Place: the unit. */
     MML_UNIT = 12,
 
     /* A numeral is above 4,294,967,295 or has more than 9 fraction digits. Place: the unit. */
@@ -136,6 +197,21 @@ enum {
 
     /* There is no order k. Place: the number of orders. */
     MML_NO_ORDER = 19
+};
+
+/* The tags of a record's fields; RECORDS above says what they hold. */
+enum {
+    MML_TAG_CODE_PIECE = 1,
+    MML_TAG_BLOCK = 2,
+    MML_TAG_PLACE = 3,
+    MML_TAG_NAME_PIECE = 4,
+    MML_TAG_SINGLE = 5,
+    MML_TAG_RANGE = 6,
+    MML_TAG_NUMERAL = 7,
+    MML_TAG_KEYED = 8,
+    MML_TAG_IDENTIFIER = 9,
+    MML_TAG_SYMBOLIC_NAME = 10,
+    MML_TAG_STRING = 11
 };
 
 /*

@@ -8,6 +8,7 @@ const LIBRARY: &str = "libmml.a";
 
 fn main() {
     println!("cargo:rerun-if-env-changed=MML_LIB");
+    judge_target();
     let folder = match env::var_os("MML_LIB") {
         Some(folder) if !folder.is_empty() => PathBuf::from(folder),
         _ => stop(&format!(
@@ -30,6 +31,22 @@ fn main() {
     println!("cargo:rerun-if-changed={}", library.display());
     println!("cargo:rustc-link-search=native={}", folder.display());
     println!("cargo:rustc-link-lib=static=mml");
+}
+
+/// Ends the build unless it is for a machine that the library's code runs on.
+fn judge_target() {
+    let of_target = |what: &str| env::var(format!("CARGO_CFG_TARGET_{what}")).unwrap_or_default();
+    let (arch, os, width) = (
+        of_target("ARCH"),
+        of_target("OS"),
+        of_target("POINTER_WIDTH"),
+    );
+    if arch != "x86_64" || width != "64" || !matches!(os.as_str(), "linux" | "none") {
+        stop(&format!(
+            "{LIBRARY} is x86-64 code for Linux, and this build is for {arch}, {width} bits, {os}. \
+             Build with `--target x86_64-unknown-linux-gnu`; rust/README.md says how to build and run that on another processor."
+        ));
+    }
 }
 
 /// Ends the build with a message.

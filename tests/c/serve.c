@@ -4,29 +4,40 @@
  * A request on standard input: the call (1 byte: 0 read, 1 print, 2 order, 3 count), k (8 bytes), the lengths of the first input, the
  * second input and the buffer (4 bytes each), all low byte first, then the three contents. The reply on standard output: the answer
  * (8 bytes, low byte first), whether a byte beside the buffer or of an input was written (1 byte), and the buffer.
+ *
+ * From call to call the three are lent at other positions (lent.h). A touch of a page without access ends the program.
  */
-#include <stdio.h>
-#include <stdlib.h>
-#include <string.h>
+#include "lent.h"
 
 #include "mml.h"
 
 enum { READ, PRINT, ORDER, COUNT };
-enum { GUARD = 64, CANARY = 0xA5 };
+enum { FIRST, SECOND, OUT, BUFFERS };
+enum { AT_K = 1, K_SIZE = 8, AT_LENGTHS = 9, LENGTH_SIZE = 4, HEAD_SIZE = 21 };
+enum { ANSWER_SIZE = 8 };
 
-/* One lent stretch of bytes with guards around it, and a copy of what it held. */
-struct lent {
+/* A content of a request, as it came. */
+struct content {
     uint8_t *bytes;
-    uint8_t *before;
     size_t len;
+    size_t room;
 };
 
-static void stop(const char *why)
+static struct content contents[BUFFERS];
+static struct field fields[BUFFERS];
+
+/* Ends the program at a touch of a page without access; write and _exit may be called here. */
+static void touched(int signal)
 {
-    fprintf(stderr, "serve: %s\n", why);
-    exit(2);
+    static const char what[] = "serve: a byte outside the lent buffers is read or written\n";
+
+    (void)signal;
+    if (write(STDERR_FILENO, what, sizeof what - 1) < 0)
+        _exit(STOPPED);
+    _exit(FAILED);
 }
 
+/* A number, low byte first. */
 static uint64_t low_first(const uint8_t *at, int n)
 {
     uint64_t value = 0;
@@ -35,79 +46,88 @@ static uint64_t low_first(const uint8_t *at, int n)
     return value;
 }
 
-static void take(uint8_t *to, size_t len)
+/* Takes one content of a request. */
+static void take(struct content *one, size_t len)
 {
-    if (len > 0 && fread(to, 1, len, stdin) != len)
+    if (one->room < len || one->bytes == NULL) {
+        free(one->bytes);
+        one->room = len + 1;
+        one->bytes = malloc(one->room);
+    }
+    if (one->bytes == NULL)
+        stop("there is no memory");
+    one->len = len;
+    if (fread(one->bytes, 1, len, stdin) != len)
         stop("the request is cut off");
 }
 
-static struct lent lend(size_t len)
+/* Makes the call. */
+static uint64_t answer(int call, uint64_t k, const struct lent lent[BUFFERS])
 {
-    struct lent one = { malloc(len + 2 * GUARD), malloc(len + 1), len };
-    if (one.bytes == NULL || one.before == NULL)
-        stop("there is no memory");
-    memset(one.bytes, CANARY, len + 2 * GUARD);
-    take(one.bytes + GUARD, len);
-    memcpy(one.before, one.bytes + GUARD, len);
-    return one;
-}
+    const struct lent *first = &lent[FIRST], *second = &lent[SECOND], *out = &lent[OUT];
 
-static int is_harmed(const struct lent *one, int is_input)
-{
-    for (size_t i = 0; i < GUARD; i++)
-        if (one->bytes[i] != CANARY || one->bytes[GUARD + one->len + i] != CANARY)
-            return 1;
-    return is_input && memcmp(one->before, one->bytes + GUARD, one->len) != 0;
-}
-
-static void give_back(struct lent *one)
-{
-    free(one->bytes);
-    free(one->before);
-}
-
-static uint64_t answer(int call, uint64_t k, const struct lent *first, const struct lent *second, struct lent *out)
-{
-    const uint8_t *input = first->bytes + GUARD;
-    uint8_t *buffer = out->bytes + GUARD;
     switch (call) {
     case READ:
-        return mml_read(input, first->len, second->bytes + GUARD, second->len, buffer, out->len);
+        return mml_read(first->bytes, first->len, second->bytes, second->len, out->bytes, out->len);
     case PRINT:
-        return mml_print(input, first->len, buffer, out->len);
+        return mml_print(first->bytes, first->len, out->bytes, out->len);
     case ORDER:
-        return mml_order(input, first->len, k, buffer, out->len);
+        return mml_order(first->bytes, first->len, k, out->bytes, out->len);
     case COUNT:
-        return mml_count(input, first->len);
+        return mml_count(first->bytes, first->len);
     default:
         stop("there is no such call");
         return 0;
     }
 }
 
+/* Was anything written but the buffer? */
+static int anything_harmed(const struct lent lent[BUFFERS])
+{
+    for (int i = 0; i < BUFFERS; i++)
+        if (is_harmed(&lent[i]) || (i != OUT && !holds(&lent[i], contents[i].bytes)))
+            return 1;
+    return 0;
+}
+
+/* Writes the reply. */
 static void reply(uint64_t result, int harmed, const struct lent *out)
 {
-    uint8_t head[9];
-    for (int i = 0; i < 8; i++)
+    uint8_t head[ANSWER_SIZE + 1];
+
+    for (int i = 0; i < ANSWER_SIZE; i++)
         head[i] = (uint8_t)(result >> (8 * i));
-    head[8] = (uint8_t)harmed;
-    if (fwrite(head, 1, sizeof head, stdout) != sizeof head || fwrite(out->bytes + GUARD, 1, out->len, stdout) != out->len || fflush(stdout) != 0)
+    head[ANSWER_SIZE] = (uint8_t)harmed;
+    if (fwrite(head, 1, sizeof head, stdout) != sizeof head)
         stop("the reply cannot be written");
+    if (out->len > 0 && fwrite(out->bytes, 1, out->len, stdout) != out->len)
+        stop("the reply cannot be written");
+    if (fflush(stdout) != 0)
+        stop("the reply cannot be written");
+}
+
+/* Serves one request; the turn decides where the buffers stand. */
+static void serve(const uint8_t *head, unsigned turn)
+{
+    struct lent lent[BUFFERS];
+    uint64_t result;
+
+    for (int i = 0; i < BUFFERS; i++) {
+        take(&contents[i], low_first(head + AT_LENGTHS + i * LENGTH_SIZE, LENGTH_SIZE));
+        lent[i] = lend(&fields[i], (int)(turn % POSITIONS), contents[i].bytes, contents[i].len);
+        turn /= POSITIONS;
+    }
+    result = answer(head[0], low_first(head + AT_K, K_SIZE), lent);
+    reply(result, anything_harmed(lent), &lent[OUT]);
 }
 
 int main(void)
 {
-    uint8_t head[21];
-    while (fread(head, 1, sizeof head, stdin) == sizeof head) {
-        struct lent first = lend(low_first(head + 9, 4));
-        struct lent second = lend(low_first(head + 13, 4));
-        struct lent out = lend(low_first(head + 17, 4));
-        uint64_t result = answer(head[0], low_first(head + 1, 8), &first, &second, &out);
-        int harmed = is_harmed(&first, 1) || is_harmed(&second, 1) || is_harmed(&out, 0);
-        reply(result, harmed, &out);
-        give_back(&first);
-        give_back(&second);
-        give_back(&out);
-    }
+    uint8_t head[HEAD_SIZE];
+    unsigned turn = 0;
+
+    on_touch(touched);
+    while (fread(head, 1, sizeof head, stdin) == sizeof head)
+        serve(head, turn++);
     return 0;
 }

@@ -1,31 +1,39 @@
 //! The proved library: linked in (feature `direct`), or behind a server program that `MML_SERVER` names.
+//!
+//! Either way the buffers that the library is lent stand between watched bytes, at every
+//! alignment; the server has them also next to pages without access.
 
-use std::io::{Read, Write};
+use std::env;
+use std::io::{self, Read, Write};
+use std::process::{Child, ChildStdin, ChildStdout, Command, Stdio};
 
 use crate::compare::{Answer, Call};
 
+/// The largest number of an answer: 0 is success, 1 to 19 are the refusals.
+pub const LAST_REFUSAL: u32 = 19;
+
 /// Where the library is called.
 pub enum Library {
-    /// In this program.
+    /// In this program, so many times up to now.
     #[cfg(feature = "direct")]
-    Direct,
+    Direct(usize),
     /// In another program, which speaks the protocol of `tests/c/serve.c`.
     Served(Box<Server>),
 }
 
 /// A running server program.
 pub struct Server {
-    child: std::process::Child,
-    requests: std::process::ChildStdin,
-    replies: std::process::ChildStdout,
+    child: Child,
+    requests: ChildStdin,
+    replies: ChildStdout,
 }
 
 impl Library {
     /// The library that this build and the environment give.
     pub fn open() -> Result<Library, String> {
-        match std::env::var("MML_SERVER") {
-            Ok(command) if !command.is_empty() => {
-                Ok(Library::Served(Box::new(Server::start(&command)?)))
+        match env::var("MML_SERVER") {
+            Ok(program) if !program.is_empty() => {
+                Ok(Library::Served(Box::new(Server::start(&program)?)))
             }
             _ => Library::linked(),
         }
@@ -33,48 +41,104 @@ impl Library {
 
     #[cfg(feature = "direct")]
     fn linked() -> Result<Library, String> {
-        Ok(Library::Direct)
+        Ok(Library::Direct(0))
     }
 
     #[cfg(not(feature = "direct"))]
     fn linked() -> Result<Library, String> {
-        Err("set MML_SERVER to the command that runs tests/c/serve.c, or build with `--features direct`".into())
+        Err(
+            "set MML_SERVER to the program of tests/c/serve.c, or build with `--features direct`"
+                .into(),
+        )
     }
 
-    /// Makes the call; an error says that the library wrote where it must not, or that it cannot be reached.
+    /// Makes the call; an error says that the library wrote where it must not, that its answer
+    /// is none, or that it cannot be reached.
     pub fn call(&mut self, call: &Call, out: &mut [u8]) -> Result<Answer, String> {
-        match self {
+        let answer = match self {
             #[cfg(feature = "direct")]
-            Library::Direct => Ok(direct(call, out)),
-            Library::Served(server) => server
-                .call(call, out)
-                .map_err(|error| format!("the server failed: {error}"))?,
-        }
+            Library::Direct(calls) => {
+                *calls += 1;
+                direct::call(call, out, *calls)?
+            }
+            Library::Served(server) => match server.call(call, out) {
+                Ok(answer) => answer?,
+                Err(error) => return Err(server.end(&error)),
+            },
+        };
+        answer_of(answer)
+    }
+}
+
+/// Takes an answer apart. Every bit counts: a number that is no refusal's is an error.
+fn answer_of(answer: u64) -> Result<Answer, String> {
+    let value = answer as u32;
+    match (answer >> 32) as u32 {
+        0 => Ok(Ok(value)),
+        number if number <= LAST_REFUSAL => Ok(Err((number, value))),
+        number => Err(format!(
+            "the answer's number is {number} (value {value}), none of 0 to {LAST_REFUSAL}"
+        )),
     }
 }
 
 #[cfg(feature = "direct")]
-fn direct(call: &Call, out: &mut [u8]) -> Answer {
-    let length = |length| length as u32;
-    match call {
-        Call::Read(text, bases) => mml::read(text, bases, out).map(length),
-        Call::Print(record) => mml::print(record, out).map(length),
-        Call::Order(record, k) => mml::order(record, *k, out).map(length),
-        Call::Count(record) => mml::count(record),
+mod direct {
+    use crate::compare::Call;
+    use crate::watched::Watched;
+
+    /// Makes the call with watched copies of its buffers.
+    pub fn call(call: &Call, out: &mut [u8], turn: usize) -> Result<u64, String> {
+        let (first, second) = call.inputs();
+        let inputs = [Watched::with(turn, first), Watched::with(turn / 8, second)];
+        let mut lent = Watched::with(turn / 64, out);
+        let answer = linked(
+            &call.lent(inputs[0].buffer(), inputs[1].buffer()),
+            lent.buffer_mut(),
+        );
+        out.copy_from_slice(lent.buffer());
+        if !lent.is_unharmed() {
+            return Err("a byte beside the buffer is written".into());
+        }
+        let unchanged = inputs[0].buffer() == first && inputs[1].buffer() == second;
+        if !unchanged || inputs.iter().any(|input| !input.is_unharmed()) {
+            return Err("an input, or a byte beside one, is written".into());
+        }
+        Ok(answer)
     }
-    .map_err(|refusal| (refusal.number, refusal.place))
+
+    /// Calls the wrapper; gives the answer as the C interface has it.
+    fn linked(call: &Call, out: &mut [u8]) -> u64 {
+        let length = |length| length as u32;
+        let answer = match call {
+            Call::Read(text, bases) => mml::read(text, bases, out).map(length),
+            Call::Print(record) => mml::print(record, out).map(length),
+            Call::Order(record, k) => mml::order(record, *k, out).map(length),
+            Call::Count(record) => mml::count(record),
+        };
+        match answer {
+            Ok(value) => u64::from(value),
+            Err(refusal) => u64::from(refusal.number()) << 32 | u64::from(refusal.place()),
+        }
+    }
 }
 
 impl Server {
-    fn start(command: &str) -> Result<Server, String> {
-        let mut words = command.split_whitespace();
-        let program = words.next().ok_or("MML_SERVER is empty")?;
-        let mut child = std::process::Command::new(program)
-            .args(words)
-            .stdin(std::process::Stdio::piped())
-            .stdout(std::process::Stdio::piped())
+    /// Starts the program, by the one that `MML_EMULATOR` names if it names one.
+    fn start(program: &str) -> Result<Server, String> {
+        let mut command = match env::var("MML_EMULATOR") {
+            Ok(emulator) if !emulator.is_empty() => {
+                let mut command = Command::new(emulator);
+                command.arg(program);
+                command
+            }
+            _ => Command::new(program),
+        };
+        let mut child = command
+            .stdin(Stdio::piped())
+            .stdout(Stdio::piped())
             .spawn()
-            .map_err(|error| format!("`{command}` does not start: {error}"))?;
+            .map_err(|error| format!("`{program}` does not start: {error}"))?;
         let requests = child.stdin.take().ok_or("the server has no input")?;
         let replies = child.stdout.take().ok_or("the server has no output")?;
         Ok(Server {
@@ -84,46 +148,68 @@ impl Server {
         })
     }
 
-    fn call(&mut self, call: &Call, out: &mut [u8]) -> std::io::Result<Result<Answer, String>> {
-        let (number, k) = match call {
-            Call::Read(..) => (0, 0),
-            Call::Print(_) => (1, 0),
-            Call::Order(_, k) => (2, *k),
-            Call::Count(_) => (3, 0),
-        };
-        let (first, second) = call.inputs();
-        let mut request = vec![number];
-        request.extend_from_slice(&k.to_le_bytes());
-        for length in [first.len(), second.len(), out.len()] {
-            request.extend_from_slice(&(length as u32).to_le_bytes());
-        }
-        request.extend_from_slice(first);
-        request.extend_from_slice(second);
-        request.extend_from_slice(out);
-        self.requests.write_all(&request)?;
+    /// Has the server make the call; the inner error is what it saw written.
+    fn call(&mut self, call: &Call, out: &mut [u8]) -> io::Result<Result<u64, String>> {
+        self.requests.write_all(&request(call, out))?;
         self.requests.flush()?;
-        let mut head = [0; 9];
-        self.replies.read_exact(&mut head)?;
+        let mut answer = [0; 8];
+        let mut harmed = [0];
+        self.replies.read_exact(&mut answer)?;
+        self.replies.read_exact(&mut harmed)?;
         self.replies.read_exact(out)?;
-        if head[8] != 0 {
-            return Ok(Err(
-                "a byte beside the buffer or of an input is written".into()
-            ));
-        }
-        let mut low = [0; 8];
-        low.copy_from_slice(&head[..8]);
-        let answer = u64::from_le_bytes(low);
-        let value = answer as u32;
-        Ok(Ok(match (answer >> 32) as u8 {
-            0 => Ok(value),
-            refusal => Err((refusal, value)),
-        }))
+        Ok(match harmed {
+            [0] => Ok(u64::from_le_bytes(answer)),
+            _ => Err("a byte beside the buffer or of an input is written".into()),
+        })
     }
+
+    /// Ends the server, with which nobody can speak any more; gives what is known of that.
+    fn end(&mut self, error: &io::Error) -> String {
+        let _ = self.child.kill();
+        match self.child.wait() {
+            Ok(status) => format!("the server ended, {status}: {error}"),
+            Err(_) => format!("the server failed: {error}"),
+        }
+    }
+}
+
+/// A request as `tests/c/serve.c` takes it.
+fn request(call: &Call, out: &[u8]) -> Vec<u8> {
+    let (number, k) = match call {
+        Call::Read(..) => (0, 0),
+        Call::Print(_) => (1, 0),
+        Call::Order(_, k) => (2, *k),
+        Call::Count(_) => (3, 0),
+    };
+    let (first, second) = call.inputs();
+    let mut request = vec![number];
+    request.extend_from_slice(&k.to_le_bytes());
+    for length in [first.len(), second.len(), out.len()] {
+        request.extend_from_slice(&(length as u32).to_le_bytes());
+    }
+    request.extend_from_slice(first);
+    request.extend_from_slice(second);
+    request.extend_from_slice(out);
+    request
 }
 
 impl Drop for Server {
     fn drop(&mut self) {
         let _ = self.child.kill();
         let _ = self.child.wait();
+    }
+}
+
+#[cfg(test)]
+mod tests {
+    use super::answer_of;
+
+    #[test]
+    fn an_answer_is_taken_apart_whole() {
+        assert_eq!(answer_of(77), Ok(Ok(77)));
+        assert_eq!(answer_of((19 << 32) + 3), Ok(Err((19, 3))));
+        for number in [20, 256, 256 + 14, 1 << 31] {
+            assert!(answer_of(number << 32).is_err());
+        }
     }
 }

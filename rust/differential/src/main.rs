@@ -7,13 +7,20 @@
 //! all bytes must be alike. Then the library alone must keep what its calls promise together.
 //! The first difference ends the run with the input in full. With `show` each input is
 //! printed before it is tried, for a library that does not return.
+//!
+//! A run ends after COUNT inputs, or after a minute if there were 20,000 by then; it goes on
+//! until there are, and fails if a quarter of an hour is not enough. It fails too unless every
+//! call gave each answer that it can give: success and, all calls together, the refusals 1 to
+//! 19. The same SEED gives the same inputs.
 
 mod commands;
 mod compare;
+mod coverage;
 mod library;
 mod lines;
 mod random;
 mod records;
+#[cfg(feature = "direct")]
 mod watched;
 
 use std::env;
@@ -21,11 +28,27 @@ use std::process::ExitCode;
 use std::time::{Duration, Instant};
 
 use compare::{Answer, Call, Difference, Outcome};
+use coverage::Coverage;
 use library::Library;
 use random::Random;
 
-/// The run ends after this time, whatever the count.
-const LONGEST: Duration = Duration::from_secs(60);
+/// A run ends after this time if it had enough inputs.
+const USUAL: Duration = Duration::from_secs(60);
+
+/// A run that has not had enough inputs after this time fails.
+const LONGEST: Duration = Duration::from_secs(900);
+
+/// No run passes with fewer inputs.
+const LEAST: u64 = 20_000;
+
+/// Inputs of a run that is given no COUNT, at most.
+const COUNT: u64 = 400_000;
+
+/// The refusal of a text that is or would be too long.
+const TEXT_TOO_LONG: u32 = 2;
+
+/// The refusal of a buffer that is too short.
+const BUFFER_TOO_SHORT: u32 = 17;
 
 /// More than any record takes.
 const ROOM: usize = 65_536;
@@ -34,13 +57,9 @@ const ROOM: usize = 65_536;
 const TEXT: usize = 1_024;
 
 fn main() -> ExitCode {
-    let arguments: Vec<String> = env::args().skip(1).collect();
-    let number = |at: usize, default: u64| match arguments.get(at) {
-        None => Some(default),
-        Some(argument) => argument.parse().ok(),
-    };
-    let (Some(seed), Some(count)) = (number(0, 1), number(1, 400_000)) else {
-        eprintln!("usage: differential [SEED [COUNT [show]]]");
+    let words: Vec<String> = env::args().skip(1).collect();
+    let Some(asked) = Asked::of(&words) else {
+        eprintln!("usage: differential [SEED [COUNT [show]]], COUNT from {LEAST} on");
         return ExitCode::from(2);
     };
     let library = match Library::open() {
@@ -50,22 +69,43 @@ fn main() -> ExitCode {
             return ExitCode::from(2);
         }
     };
-    let mut run = Run::new(
-        library,
-        seed,
-        arguments.get(2).is_some_and(|word| word == "show"),
-    );
-    let start = Instant::now();
-    while run.inputs < count && start.elapsed() < LONGEST {
-        if let Err(difference) = run.one_input() {
-            println!("DIFFERENCE at input {} of seed {seed}", run.inputs);
-            println!("{difference}");
-            return ExitCode::FAILURE;
+    println!("seed {}", asked.seed);
+    match Run::new(library, &asked).all(asked.count) {
+        Ok(()) => ExitCode::SUCCESS,
+        Err(why) => {
+            println!("{why}");
+            println!("the same inputs again: differential {}", asked.seed);
+            ExitCode::FAILURE
         }
-        run.inputs += 1;
     }
-    run.summary(seed, start.elapsed());
-    ExitCode::SUCCESS
+}
+
+/// What the program is asked for.
+#[derive(Debug, PartialEq)]
+struct Asked {
+    seed: u64,
+    count: u64,
+    show: bool,
+}
+
+impl Asked {
+    /// What the words ask for, if they are right.
+    fn of(words: &[String]) -> Option<Asked> {
+        let number = |at: usize, default: u64| match words.get(at) {
+            None => Some(default),
+            Some(word) => word.parse().ok(),
+        };
+        let asked = Asked {
+            seed: number(0, 1)?,
+            count: number(1, COUNT)?,
+            show: words.len() == 3,
+        };
+        let right = match words {
+            [_, _, show] => show == "show",
+            _ => words.len() < 3,
+        };
+        (right && asked.count >= LEAST).then_some(asked)
+    }
 }
 
 /// What a run keeps from input to input, and what it has seen.
@@ -78,29 +118,44 @@ struct Run {
     orders: u64,
     well_formed: u64,
     longest_record: usize,
-    /// How often each answer came, by the number of the refusal, 0 for success: read, print,
-    /// order, count.
-    answers: [[u64; 20]; 4],
+    answers: Coverage,
     /// Records of accepted commands.
     pool: Vec<Vec<u8>>,
 }
 
 impl Run {
-    fn new(library: Library, seed: u64, show: bool) -> Run {
+    fn new(library: Library, asked: &Asked) -> Run {
         Run {
             library,
-            random: Random::new(seed),
-            show,
+            random: Random::new(asked.seed),
+            show: asked.show,
             inputs: 0,
             calls: 0,
             orders: 0,
             well_formed: 0,
             longest_record: 0,
-            answers: [[0; 20]; 4],
+            answers: Coverage::default(),
             pool: vec![vec![1, 0, 1, b'A']],
         }
     }
 
+    /// Tries inputs, so many or as many as the time allows; says why the run fails.
+    fn all(&mut self, count: u64) -> Result<(), String> {
+        let start = Instant::now();
+        while goes_on(self.inputs, count, start.elapsed())? {
+            self.one_input().map_err(|difference| {
+                format!("DIFFERENCE at input {}\n{difference}", self.inputs)
+            })?;
+            self.inputs += 1;
+        }
+        self.summary(start.elapsed());
+        match self.answers.missing() {
+            missing if missing.is_empty() => Ok(()),
+            missing => Err(format!("NEVER ANSWERED: {}", missing.join(", "))),
+        }
+    }
+
+    /// Tries the next input.
     fn one_input(&mut self) -> Result<(), Difference> {
         if let Some((text, bases)) = lines::LINES.get(self.inputs as usize) {
             self.command(text.as_bytes(), bases.as_bytes())
@@ -183,33 +238,23 @@ impl Run {
         };
         let large = needed + self.random.between(1, 50);
         let outcome = call.compare(&mut self.library, &mut self.random, large)?;
-        self.note(call, &outcome);
+        self.answers.note(call, outcome.answer);
         for room in [needed, needed.saturating_sub(1), 0] {
-            let outcome = call.compare(&mut self.library, &mut self.random, room)?;
-            if outcome.answer.is_err_and(|refusal| refusal.0 == 17) {
-                self.note(call, &outcome);
+            let answer = call
+                .compare(&mut self.library, &mut self.random, room)?
+                .answer;
+            if matches!(answer, Err((BUFFER_TOO_SHORT, _))) {
+                self.answers.note(call, answer);
             }
         }
         self.calls += 4;
         Ok(outcome)
     }
 
-    /// Counts an answer for the summary.
-    fn note(&mut self, call: Call, outcome: &Outcome) {
-        let kind = match call {
-            Call::Read(..) => 0,
-            Call::Print(_) => 1,
-            Call::Order(..) => 2,
-            Call::Count(_) => 3,
-        };
-        let number = outcome.answer.err().map_or(0, |refusal| refusal.0 as usize);
-        self.answers[kind][number.min(19)] += 1;
-    }
-
     /// The bytes that a call needs, as the model tells with an empty buffer.
     fn room_needed(&self, call: Call) -> Option<usize> {
         match call.model(&mut []) {
-            Err((17, needed)) if needed as usize <= ROOM => Some(needed as usize),
+            Err((BUFFER_TOO_SHORT, needed)) if needed as usize <= ROOM => Some(needed as usize),
             _ => None,
         }
     }
@@ -228,7 +273,7 @@ impl Run {
         let mut text = [0; TEXT];
         let length = match (self.ask(print, &mut text)?, from) {
             (Ok(length), _) => length as usize,
-            (Err((2, _)), None) => return Ok(()),
+            (Err((TEXT_TOO_LONG, _)), None) => return Ok(()),
             (Err((number, place)), _) => {
                 return Err(print.alone(&format!("not printed: {number} at {place}")))
             }
@@ -267,9 +312,10 @@ impl Run {
         self.printed(order, None)
     }
 
-    fn summary(&self, seed: u64, time: Duration) {
+    /// Tells what the run has seen.
+    fn summary(&self, time: Duration) {
         println!(
-            "no difference: seed {seed}, {} inputs, {} calls compared, {:.1} s",
+            "no difference: {} inputs, {} calls compared, {:.1} s",
             self.inputs,
             self.calls,
             time.as_secs_f64()
@@ -278,19 +324,23 @@ impl Run {
             "{} well-formed records, {} orders, longest record of a command {} bytes",
             self.well_formed, self.orders, self.longest_record
         );
-        for (name, answers) in ["read", "print", "order", "count"]
-            .iter()
-            .zip(&self.answers)
-        {
-            let mut line = format!("{name:<6} done {}", answers[0]);
-            for (number, times) in answers.iter().enumerate().skip(1) {
-                if *times > 0 {
-                    line.push_str(&format!(", refused {number}: {times}"));
-                }
-            }
-            println!("{line}");
-        }
+        self.answers.show();
     }
+}
+
+/// Whether another input is to be tried after so many, of `count`, in this time; an error if
+/// the time is over and there were too few.
+fn goes_on(inputs: u64, count: u64, time: Duration) -> Result<bool, String> {
+    if inputs >= count || inputs >= LEAST && time >= USUAL {
+        return Ok(false);
+    }
+    if time >= LONGEST {
+        let seconds = LONGEST.as_secs();
+        return Err(format!(
+            "TOO SLOW: {inputs} inputs in {seconds} s, and {LEAST} are asked for"
+        ));
+    }
+    Ok(true)
 }
 
 /// The letters of a record's places.
@@ -304,4 +354,46 @@ fn bases_of(mut record: &[u8]) -> Vec<u8> {
         record = &rest[length..];
     }
     bases
+}
+
+#[cfg(test)]
+mod tests {
+    use super::{goes_on, Asked, COUNT, LEAST, LONGEST, USUAL};
+
+    fn asked(words: &str) -> Option<(u64, u64, bool)> {
+        let words: Vec<String> = words.split_whitespace().map(String::from).collect();
+        Asked::of(&words).map(|asked| (asked.seed, asked.count, asked.show))
+    }
+
+    #[test]
+    fn no_run_ends_with_too_few_inputs() {
+        assert_eq!(goes_on(LEAST - 1, COUNT, USUAL), Ok(true));
+        assert!(goes_on(LEAST - 1, COUNT, LONGEST).is_err());
+        assert_eq!(goes_on(LEAST, COUNT, USUAL / 2), Ok(true));
+        assert_eq!(goes_on(LEAST, COUNT, USUAL), Ok(false));
+        assert_eq!(goes_on(LEAST, COUNT, LONGEST), Ok(false));
+        assert_eq!(goes_on(COUNT, COUNT, USUAL / 2), Ok(false));
+    }
+
+    #[test]
+    fn words_that_are_right() {
+        assert_eq!(asked(""), Some((1, COUNT, false)));
+        assert_eq!(asked("7"), Some((7, COUNT, false)));
+        assert_eq!(asked("7 20000"), Some((7, LEAST, false)));
+        assert_eq!(asked("7 20000 show"), Some((7, LEAST, true)));
+    }
+
+    #[test]
+    fn words_that_are_wrong() {
+        for wrong in [
+            "x",
+            "-1",
+            "1 x",
+            "1 19999",
+            "1 20000 shew",
+            "1 20000 show 1",
+        ] {
+            assert_eq!(asked(wrong), None);
+        }
+    }
 }

@@ -1,47 +1,77 @@
-//! Buffers with canary bytes around them.
+//! Buffers with watched bytes around them, for the library that is linked in.
 
-use crate::random::Random;
-
-/// Canary bytes on each side.
+/// Watched bytes on each side, at least.
 const GUARD: usize = 40;
 
-/// A buffer between canary bytes.
+/// How far a buffer may start behind a multiple of 8.
+const OFFSETS: usize = 8;
+
+/// A buffer between watched bytes.
 pub struct Watched {
     bytes: Vec<u8>,
+    start: usize,
     key: u8,
 }
 
 impl Watched {
-    /// A buffer that has these bytes.
-    pub fn with(random: &mut Random, bytes: &[u8]) -> Watched {
-        let key = random.next() as u8;
-        let length = bytes.len() + 2 * GUARD;
+    /// A buffer that has these bytes; the turn decides where it starts.
+    pub fn with(turn: usize, bytes: &[u8]) -> Watched {
+        let key = turn as u8;
+        let start = GUARD + turn % OFFSETS;
+        let length = start + bytes.len() + GUARD;
         let mut all: Vec<u8> = (0..length).map(|at| canary(key, at)).collect();
-        all[GUARD..GUARD + bytes.len()].copy_from_slice(bytes);
-        Watched { bytes: all, key }
+        all[start..start + bytes.len()].copy_from_slice(bytes);
+        Watched {
+            bytes: all,
+            start,
+            key,
+        }
+    }
+
+    /// Where the buffer ends.
+    fn end(&self) -> usize {
+        self.bytes.len() - GUARD
     }
 
     /// The buffer.
     pub fn buffer(&self) -> &[u8] {
-        &self.bytes[GUARD..self.bytes.len() - GUARD]
+        &self.bytes[self.start..self.end()]
     }
 
     /// The buffer, to be written.
     pub fn buffer_mut(&mut self) -> &mut [u8] {
-        let end = self.bytes.len() - GUARD;
-        &mut self.bytes[GUARD..end]
+        let end = self.end();
+        &mut self.bytes[self.start..end]
     }
 
-    /// Whether all canary bytes are what they were.
+    /// Whether all watched bytes are what they were.
     pub fn is_unharmed(&self) -> bool {
-        let end = self.bytes.len() - GUARD;
-        let outside = (0..GUARD).chain(end..self.bytes.len());
-        outside
-            .into_iter()
+        (0..self.start)
+            .chain(self.end()..self.bytes.len())
             .all(|at| self.bytes[at] == canary(self.key, at))
     }
 }
 
 fn canary(key: u8, at: usize) -> u8 {
     key ^ (at as u8).wrapping_mul(37)
+}
+
+#[cfg(test)]
+mod tests {
+    use super::Watched;
+
+    #[test]
+    fn a_byte_beside_the_buffer_is_noticed() {
+        for turn in 0..16 {
+            let mut watched = Watched::with(turn, b"abc");
+            assert_eq!(watched.buffer(), b"abc");
+            watched.buffer_mut().fill(b'x');
+            assert!(watched.is_unharmed());
+            for at in [watched.start - 1, watched.end()] {
+                watched.bytes[at] ^= 1;
+                assert!(!watched.is_unharmed());
+                watched.bytes[at] ^= 1;
+            }
+        }
+    }
 }

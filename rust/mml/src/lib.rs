@@ -17,6 +17,9 @@
 //! let mut text = [0; mml::TEXT_MAX];
 //! let size = mml::print(&order[..size], &mut text)?;
 //! assert_eq!(&text[..size], b"SET-ATT:LIN=7-3,LEV=3.5;");
+//!
+//! let refused = mml::read(b"SET-ATT:LIN=7,LEV=3,5;", b"DD", &mut record);
+//! assert_eq!(refused, Err(mml::Refusal::Kind(20)));
 //! # Ok::<(), mml::Refusal>(())
 //! ```
 
@@ -32,53 +35,111 @@ pub const TEXT_MAX: usize = 1024;
 /// No record is longer: a buffer of this size always suffices for [`read`] and [`order`].
 pub const RECORD_MAX: usize = 65_536;
 
-/// Why a call refused, and where.
-#[derive(Clone, Copy, Debug, PartialEq, Eq, Hash)]
-pub struct Refusal {
-    /// The number, 1 to 19.
-    pub number: u8,
-    /// For 1 an index of the base letters, for 2 to 16 a place in the text, for 17 the bytes
-    /// needed, for 18 nothing (0), for 19 the number of orders.
-    pub place: u32,
+/// The most base letters, and so the most places of a command.
+pub const BASES_MAX: usize = 32;
+
+/// Makes the refusals of one table: what is said of each, its number, its name, its sentence.
+macro_rules! refusals {
+    ($($(#[$about:meta])* $number:literal $name:ident $sentence:literal;)*) => {
+        /// Why a call refused, and where: each refusal holds its place.
+        ///
+        /// A place is counted in bytes of the text from 0 unless said otherwise. The names are
+        /// those of `include/mml.h`.
+        #[derive(Clone, Copy, Debug, PartialEq, Eq, Hash)]
+        pub enum Refusal {
+            $($(#[$about])* $name(u32),)*
+            /// The answer's number is none of 0 to 19: number and value as they came. The
+            /// library does not answer so; what is linked is not the library, or another one.
+            Unknown(u32, u32),
+        }
+
+        impl Refusal {
+            /// The refusal with this number at this place.
+            pub const fn new(number: u32, place: u32) -> Refusal {
+                match number {
+                    $($number => Refusal::$name(place),)*
+                    _ => Refusal::Unknown(number, place),
+                }
+            }
+
+            /// The refusal's number: 1 to 19, unless it is unknown.
+            pub const fn number(self) -> u32 {
+                match self {
+                    $(Refusal::$name(_) => $number,)*
+                    Refusal::Unknown(number, _) => number,
+                }
+            }
+
+            /// The refusal's place.
+            pub const fn place(self) -> u32 {
+                match self {
+                    $(Refusal::$name(place) => place,)*
+                    Refusal::Unknown(_, place) => place,
+                }
+            }
+
+            /// What the refusal means, in one sentence.
+            pub const fn sentence(self) -> &'static str {
+                match self {
+                    $(Refusal::$name(_) => $sentence,)*
+                    Refusal::Unknown(..) => "no refusal has this number",
+                }
+            }
+        }
+    };
 }
 
-impl Refusal {
-    /// What the number means, in one sentence.
-    pub const fn sentence(&self) -> &'static str {
-        match self.number {
-            1 => "a base letter is none of D, H, O, B, K, or there are more than 32",
-            2 => "the text is longer than 1,024 bytes",
-            3 => "a byte is not permitted in a text",
-            4 => "a string or a comment is not closed",
-            5 => "a byte starts no token",
-            6 => "the command has no `;`",
-            7 => "something stands after the `;`",
-            8 => "the command code is wrong",
-            9 => "the place is named and its block is not, or the other way round",
-            10 => "the name is wrong",
-            11 => "units and separators do not alternate, or a named value is empty",
-            12 => "the unit cannot be read",
-            13 => "the numeral is too big or has more than 9 fraction digits",
-            14 => "a rule of grouping is broken",
-            15 => "too long a word or string, or too many blocks, places or elements",
-            16 => "the value has over 4,096 arguments or the command over 65,535 orders",
-            17 => "the buffer is too short",
-            18 => "the record is not well formed",
-            19 => "there is no order with this number",
-            _ => "unknown",
-        }
-    }
+refusals! {
+    /// A base letter is none of D, H, O, B, K, or there is a 33rd. Place: its index.
+    1 BaseLetter "a base letter is none of D, H, O, B, K, or there are more than 32";
+    /// The text is longer than 1,024 bytes; of [`print`]: it would be. Place: 1,024.
+    2 TextTooLong "the text is longer than 1,024 bytes";
+    /// A byte is not permitted: only 9 to 13 and 32 to 126 are. Place: the byte.
+    3 ByteNotPermitted "a byte is not permitted in a text";
+    /// A string or a comment is not closed. Place: its opening.
+    4 NotClosed "a string or a comment is not closed";
+    /// A byte starts no token, as a slash alone. Place: the byte.
+    5 NoToken "a byte starts no token";
+    /// The command has no `;`. Place: the length of the text.
+    6 NoEnd "the command has no `;`";
+    /// Something stands after the `;`. Place: it.
+    7 AfterEnd "something stands after the `;`";
+    /// The code is not 1 to 3 identifiers joined by `-`. Place: the first token that does not
+    /// fit.
+    8 Code "the command code is wrong";
+    /// The place is named and its block's first place is not, or the other way round. Place:
+    /// the place's first token.
+    9 Kind "the place is named and its block is not, or the other way round";
+    /// The name is not 1 to 4 pieces joined by `-`, an identifier first. Place: the first token
+    /// that does not fit.
+    10 Name "the name is wrong";
+    /// In a value, units and joining separators do not alternate, or a named value is empty.
+    /// Place: the first token that does not fit.
+    11 Alternation "units and separators do not alternate, or a named value is empty";
+    /// A unit cannot be read under the base of its place. Place: the unit.
+    12 Unit "the unit cannot be read";
+    /// A numeral is above 4,294,967,295 or has more than 9 fraction digits. Place: the unit.
+    13 NumeralTooBig "the numeral is too big or has more than 9 fraction digits";
+    /// A rule of grouping is broken. Place: the separator or unit that breaks it.
+    14 Group "a rule of grouping is broken";
+    /// A limit is passed: a word of 32 characters, a string of 80, 8 blocks, 32 places, 64
+    /// elements of a value. Place: what passes it.
+    15 Limit "too long a word or string, or too many blocks, places or elements";
+    /// A value has over 4,096 arguments, or the command over 65,535 orders. Place: the value
+    /// with which it does.
+    16 TooMany "the value has over 4,096 arguments or the command over 65,535 orders";
+    /// The buffer is too short. Place: the bytes needed.
+    17 BufferTooShort "the buffer is too short";
+    /// The record is not well formed. Place: 0.
+    18 Record "the record is not well formed";
+    /// There is no order `k`. Place: the number of orders.
+    19 NoOrder "there is no order with this number";
 }
 
 impl fmt::Display for Refusal {
     fn fmt(&self, f: &mut fmt::Formatter<'_>) -> fmt::Result {
-        write!(
-            f,
-            "refusal {} at {}: {}",
-            self.number,
-            self.place,
-            self.sentence()
-        )
+        let (number, place) = (self.number(), self.place());
+        write!(f, "refusal {number} at {place}: {}", self.sentence())
     }
 }
 
@@ -99,15 +160,12 @@ extern "C" {
     fn mml_count(record: *const u8, record_len: usize) -> u64;
 }
 
-/// Takes an answer apart: number times 2^32 plus value.
-fn value_of(answer: u64) -> Result<u32, Refusal> {
+/// Takes an answer apart: number times 2^32 plus value. Every bit of both counts.
+const fn value_of(answer: u64) -> Result<u32, Refusal> {
     let value = answer as u32;
-    match (answer >> 32) as u8 {
+    match (answer >> 32) as u32 {
         0 => Ok(value),
-        number => Err(Refusal {
-            number,
-            place: value,
-        }),
+        number => Err(Refusal::new(number, value)),
     }
 }
 
@@ -156,4 +214,25 @@ pub fn count(record: &[u8]) -> Result<u32, Refusal> {
     // SAFETY: pointer and length are those of one slice, and nothing is written.
     let answer = unsafe { mml_count(record.as_ptr(), record.len()) };
     value_of(answer)
+}
+
+#[cfg(test)]
+mod tests {
+    use super::{value_of, Refusal};
+
+    #[test]
+    fn an_answer_is_taken_apart_whole() {
+        assert_eq!(value_of(77), Ok(77));
+        assert_eq!(value_of(0xFFFF_FFFF), Ok(u32::MAX));
+        assert_eq!(value_of((14 << 32) + 5), Err(Refusal::Group(5)));
+        assert_eq!(value_of((19 << 32) + 3), Err(Refusal::NoOrder(3)));
+    }
+
+    #[test]
+    fn high_bits_of_the_number_are_not_cut() {
+        for number in [20, 256, 256 + 14, 1 << 16, 1 << 31, u32::MAX] {
+            let answer = (u64::from(number) << 32) + 5;
+            assert_eq!(value_of(answer), Err(Refusal::Unknown(number, 5)));
+        }
+    }
 }

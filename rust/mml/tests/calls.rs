@@ -36,31 +36,77 @@ fn count_and_order() {
 }
 
 #[test]
-fn refusals() {
+fn a_refused_call_writes_nothing() {
     let mut out = [7; 76];
-    let refused = |number, place| Err(Refusal { number, place });
-    assert_eq!(mml::read(b"", b"", &mut []), refused(6, 0));
-    assert_eq!(mml::read(b"A:9&&5;", b"", &mut out), refused(14, 5));
-    assert_eq!(mml::read(TEXT, b"DD", &mut out), refused(17, 77));
-    assert_eq!(mml::print(b"", &mut out), refused(18, 0));
-    assert_eq!(mml::order(&record(), 3, &mut out), refused(19, 3));
+    let read = mml::read(TEXT, b"DD", &mut out);
+    assert_eq!(read, Err(Refusal::BufferTooShort(77)));
+    assert_eq!(mml::print(b"", &mut out), Err(Refusal::Record(0)));
+    let order = mml::order(&record(), 3, &mut out);
+    assert_eq!(order, Err(Refusal::NoOrder(3)));
+    assert_eq!(mml::count(b"x"), Err(Refusal::Record(0)));
     assert_eq!(out, [7; 76]);
-    assert_eq!(mml::count(b"x").map(|_| 0), refused(18, 0));
+}
+
+/// The reader's answer to a text without base letters, in a buffer of no bytes.
+fn refusal(text: &str) -> Refusal {
+    mml::read(text.as_bytes(), b"", &mut []).unwrap_err()
 }
 
 #[test]
-fn every_refusal_has_its_sentence() {
-    let sentence = |number| Refusal { number, place: 0 }.sentence();
+fn every_refusal_of_the_reader() {
+    let bases = [b'D'; mml::BASES_MAX + 1];
+    let base_letter = mml::read(b"A;", &bases, &mut []);
+    assert_eq!(base_letter, Err(Refusal::BaseLetter(32)));
+    let long = " ".repeat(mml::TEXT_MAX + 1);
+    assert_eq!(refusal(&long), Refusal::TextTooLong(1024));
+    assert_eq!(refusal("A\u{1};"), Refusal::ByteNotPermitted(1));
+    assert_eq!(refusal("A:\"x;"), Refusal::NotClosed(2));
+    assert_eq!(refusal("A/B;"), Refusal::NoToken(1));
+    assert_eq!(refusal(""), Refusal::NoEnd(0));
+    assert_eq!(refusal("A;B"), Refusal::AfterEnd(2));
+    assert_eq!(refusal("1;"), Refusal::Code(0));
+    assert_eq!(refusal("A:B=3,5;"), Refusal::Kind(6));
+    assert_eq!(refusal("A:=1;"), Refusal::Name(2));
+    assert_eq!(refusal("A:1&;"), Refusal::Alternation(4));
+    assert_eq!(refusal("A:1.;"), Refusal::Unit(2));
+    assert_eq!(refusal("A:4294967296;"), Refusal::NumeralTooBig(2));
+    assert_eq!(refusal("A:9&&5;"), Refusal::Group(5));
+    assert_eq!(refusal("A:::::::::;"), Refusal::Limit(9));
+    assert_eq!(refusal("A:0&&4096;"), Refusal::TooMany(2));
+    assert_eq!(refusal("A;"), Refusal::BufferTooShort(4));
+}
+
+#[test]
+fn every_number_has_its_refusal() {
+    let mut sentences = Vec::new();
     for number in 1..=19 {
-        assert_ne!(sentence(number), "unknown");
+        let refusal = Refusal::new(number, 5);
+        assert!(!matches!(refusal, Refusal::Unknown(..)));
+        assert_eq!((refusal.number(), refusal.place()), (number, 5));
+        assert!(!sentences.contains(&refusal.sentence()));
+        sentences.push(refusal.sentence());
     }
-    assert_eq!(sentence(0), "unknown");
-    let refusal = Refusal {
-        number: 14,
-        place: 5,
-    };
-    assert_eq!(
-        refusal.to_string(),
-        "refusal 14 at 5: a rule of grouping is broken"
-    );
+    for number in [0, 20, 270, u32::MAX] {
+        let refusal = Refusal::new(number, 5);
+        assert_eq!(refusal, Refusal::Unknown(number, 5));
+        assert_eq!((refusal.number(), refusal.place()), (number, 5));
+    }
+}
+
+#[test]
+fn a_refusal_is_shown() {
+    let shown = Refusal::Group(5).to_string();
+    assert_eq!(shown, "refusal 14 at 5: a rule of grouping is broken");
+    let shown = Refusal::Unknown(270, 5).to_string();
+    assert_eq!(shown, "refusal 270 at 5: no refusal has this number");
+    let error: Box<dyn std::error::Error> = Box::new(Refusal::NoEnd(0));
+    assert_eq!(error.to_string(), "refusal 6 at 0: the command has no `;`");
+}
+
+#[test]
+fn empty_slices_may_stand_anywhere() {
+    assert_eq!(mml::read(&[], &[], &mut []), Err(Refusal::NoEnd(0)));
+    assert_eq!(mml::print(&[], &mut []), Err(Refusal::Record(0)));
+    assert_eq!(mml::order(&[], 0, &mut []), Err(Refusal::Record(0)));
+    assert_eq!(mml::count(&[]), Err(Refusal::Record(0)));
 }

@@ -1,0 +1,102 @@
+//! What the library answered in a run, and what a run must have seen.
+
+use crate::compare::{Answer, Call};
+use crate::library::LAST_REFUSAL;
+
+/// Numbers of answers: success and the refusals.
+const NUMBERS: usize = LAST_REFUSAL as usize + 1;
+
+/// Each call, and the numbers that it can answer.
+const CALLS: [(&str, &[usize]); 4] = [
+    (
+        "read",
+        &[0, 1, 2, 3, 4, 5, 6, 7, 8, 9, 10, 11, 12, 13, 14, 15, 16, 17],
+    ),
+    ("print", &[0, 2, 17, 18]),
+    ("order", &[0, 17, 18, 19]),
+    ("count", &[0, 18]),
+];
+
+/// How often each call gave each answer, by its number, 0 for success.
+#[derive(Default)]
+pub struct Coverage([[u64; NUMBERS]; CALLS.len()]);
+
+impl Coverage {
+    /// Counts an answer.
+    pub fn note(&mut self, call: Call, answer: Answer) {
+        let kind = match call {
+            Call::Read(..) => 0,
+            Call::Print(_) => 1,
+            Call::Order(..) => 2,
+            Call::Count(_) => 3,
+        };
+        let number = answer.err().map_or(0, |(number, _)| number as usize);
+        self.0[kind][number] += 1;
+    }
+
+    /// The answers that a call can give and did not, as `read 16`.
+    pub fn missing(&self) -> Vec<String> {
+        let mut missing = Vec::new();
+        for ((name, numbers), answers) in CALLS.iter().zip(&self.0) {
+            let unseen = numbers.iter().filter(|&&number| answers[number] == 0);
+            missing.extend(unseen.map(|number| format!("{name} {number}")));
+        }
+        missing
+    }
+
+    /// A line for each call with what it answered.
+    pub fn show(&self) {
+        for ((name, _), answers) in CALLS.iter().zip(&self.0) {
+            let mut line = format!("{name:<6} done {}", answers[0]);
+            for (number, times) in answers.iter().enumerate().skip(1) {
+                if *times > 0 {
+                    line.push_str(&format!(", refused {number}: {times}"));
+                }
+            }
+            println!("{line}");
+        }
+    }
+}
+
+#[cfg(test)]
+mod tests {
+    use super::{Coverage, CALLS};
+    use crate::compare::Call;
+
+    /// Notes every answer that the calls can give but one; gives what is missing.
+    fn all_but(left_out: (usize, usize)) -> Vec<String> {
+        let calls = [
+            Call::Read(b"", b""),
+            Call::Print(b""),
+            Call::Order(b"", 0),
+            Call::Count(b""),
+        ];
+        let mut coverage = Coverage::default();
+        for (kind, (_, numbers)) in CALLS.iter().enumerate() {
+            for &number in numbers.iter().filter(|&&number| (kind, number) != left_out) {
+                let answer = match number {
+                    0 => Ok(1),
+                    _ => Err((number as u32, 0)),
+                };
+                coverage.note(calls[kind], answer);
+            }
+        }
+        coverage.missing()
+    }
+
+    #[test]
+    fn what_no_call_answered_is_missing() {
+        assert_eq!(Coverage::default().missing().len(), 28);
+        assert_eq!(all_but((0, 16)), ["read 16"]);
+        assert_eq!(all_but((2, 19)), ["order 19"]);
+        assert_eq!(all_but((3, 0)), ["count 0"]);
+        assert!(all_but((9, 9)).is_empty());
+    }
+
+    #[test]
+    fn every_refusal_belongs_to_a_call() {
+        for number in 1..=19 {
+            assert!(CALLS.iter().any(|(_, numbers)| numbers.contains(&number)));
+        }
+    }
+}

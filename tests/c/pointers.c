@@ -1,0 +1,253 @@
+/*
+ * pointers - every pointer of every call at every position (lent.h): misaligned, next to pages without access, null for length 0.
+ *
+ * Each call must answer and write what it does with plain buffers, leave every other byte as it was, and touch nothing outside.
+ * Before that the test sees that its own watch works.
+ */
+#include "lent.h"
+
+#include <setjmp.h>
+
+#include "mml.h"
+
+enum { SPARE = 16, FILLING = 0x3C };
+
+static const struct {
+    const char *text;
+    const char *bases;
+} commands[] = {
+    { "SET-ATT:LIN=7-1&&-3,LEV=3.5;", "DD" },
+    { "A;", "" },
+    { "A:;", "K" },
+    { "A:0&&4094,0&&15;", "" },
+    { "CHANGE-TRUNK-GROUP:ROUTE=7-1&&-3&-5&-9&8-2&-5&-6&9-1&&-7++2,LEV=3.5&4.25,OWNER=\"South \"\"B\"\" wing\",P=K'*21#,THR=10%"
+      ":1,,UPD8,B'1010,O'777,1-2-3-1&-2&-3&-4&-5&-6&-7&-8,CENTRAL,WEST;",
+      "DDDDDHHHHHHHH" },
+    { "", "" },
+    { "A;", "DDX" },
+    { "A:\"x", "" },
+    { "A:/;", "" },
+    { "A", "" },
+    { "A;B", "" },
+    { "A-;", "" },
+    { "A:B=3,5;", "" },
+    { "A:B-=5;", "" },
+    { "A:1&;", "" },
+    { "A:9;", "O" },
+    { "A:4294967296;", "" },
+    { "A:9&&5;", "" },
+    { "A:0&&4096;", "" },
+};
+
+static struct field inputs[2], outs;
+static uint8_t plain[MML_RECORD_MAX], filling[MML_RECORD_MAX], record[MML_RECORD_MAX];
+static unsigned long calls;
+
+static sigjmp_buf before_touch;
+
+/* Tells of a failure and ends the program. */
+static void fail(const char *what)
+{
+    fprintf(stderr, "pointers: %s\n", what);
+    exit(FAILED);
+}
+
+/* Ends the program at a touch of a page without access; write and _exit may be called here. */
+static void touched(int signal)
+{
+    static const char what[] = "pointers: a byte outside the lent buffers is read or written\n";
+
+    (void)signal;
+    if (write(STDERR_FILENO, what, sizeof what - 1) < 0)
+        _exit(STOPPED);
+    _exit(FAILED);
+}
+
+static void go_back(int signal)
+{
+    (void)signal;
+    siglongjmp(before_touch, 1);
+}
+
+/* Is the program stopped when it reads this byte? */
+static int stops_at(const volatile uint8_t *at)
+{
+    if (sigsetjmp(before_touch, 1) != 0)
+        return 1;
+    (void)*at;
+    return 0;
+}
+
+/* Is a change of this byte seen? */
+static int is_seen(const struct lent *one, uint8_t *at)
+{
+    int seen;
+
+    *at ^= 1;
+    seen = is_harmed(one);
+    *at ^= 1;
+    return seen && !is_harmed(one);
+}
+
+/* The test of the test: the pages without access stop the program, and each watched byte is watched. */
+static void see_the_watch(void)
+{
+    on_touch(go_back);
+    for (int position = 0; position < POSITIONS; position++) {
+        struct lent one = lend(&outs, position, filling, SPARE);
+        uint8_t *end = outs.bytes + outs.room;
+
+        if (!stops_at(outs.bytes - 1) || !stops_at(end) || stops_at(outs.bytes) || stops_at(end - 1))
+            fail("the pages around a field do not stop the program");
+        if (one.bytes > outs.bytes && !(is_seen(&one, one.bytes - 1) && is_seen(&one, outs.bytes)))
+            fail("a byte before the buffer is not watched");
+        if (one.bytes + SPARE < end && !(is_seen(&one, one.bytes + SPARE) && is_seen(&one, end - 1)))
+            fail("a byte behind the buffer is not watched");
+    }
+    if (lend(&outs, NOWHERE, NULL, 0).bytes != NULL)
+        fail("a buffer that stands nowhere has a pointer");
+    on_touch(touched);
+}
+
+/* A call: what it is, and its inputs. */
+struct call {
+    enum { READ, PRINT, ORDER, COUNT } kind;
+    const uint8_t *first, *second;
+    size_t first_len, second_len;
+    uint64_t k;
+};
+
+/* Makes the call with inputs and buffer from these places. */
+static uint64_t made(const struct call *call, const uint8_t *first, const uint8_t *second, uint8_t *out, size_t room)
+{
+    calls++;
+    switch (call->kind) {
+    case READ:
+        return mml_read(first, call->first_len, second, call->second_len, out, room);
+    case PRINT:
+        return mml_print(first, call->first_len, out, room);
+    case ORDER:
+        return mml_order(first, call->first_len, call->k, out, room);
+    default:
+        return mml_count(first, call->first_len);
+    }
+}
+
+/* The call at these positions does what it did with plain buffers. */
+static void try_at(const struct call *call, size_t room, uint64_t expected, int position, int other)
+{
+    struct lent first = lend(&inputs[0], position, call->first, call->first_len);
+    struct lent second = lend(&inputs[1], (position + other) % POSITIONS, call->second, call->second_len);
+    struct lent out = lend(&outs, other, filling, room);
+
+    if (made(call, first.bytes, second.bytes, out.bytes, room) != expected)
+        fail("an answer depends on where a buffer stands");
+    if (!holds(&out, plain))
+        fail("what is written depends on where a buffer stands");
+    if (is_harmed(&out) || is_harmed(&first) || is_harmed(&second))
+        fail("a byte beside a buffer is written");
+    if (!holds(&first, call->first) || !holds(&second, call->second))
+        fail("an input is written");
+}
+
+/* Tries the call with a buffer of this size at all positions. */
+static void try_room(const struct call *call, size_t room)
+{
+    uint64_t expected;
+    size_t written;
+
+    memcpy(plain, filling, sizeof plain);
+    expected = made(call, call->first, call->second, plain, room);
+    written = MML_NUMBER(expected) == MML_DONE && call->kind != COUNT ? MML_VALUE(expected) : 0;
+    if (MML_NUMBER(expected) > MML_NO_ORDER || written > room)
+        fail("an answer is none");
+    if (memcmp(plain + written, filling + written, sizeof plain - written) != 0)
+        fail("bytes past the answer are written");
+    for (int position = 0; position < POSITIONS; position++)
+        for (int other = 0; other < POSITIONS; other++)
+            try_at(call, room, expected, position, other);
+}
+
+/* Tries the call with buffers that are large, just fit, are a byte too short and empty. Gives the answer to the first. */
+static uint64_t try_call(struct call call)
+{
+    uint64_t answer = made(&call, call.first, call.second, plain, sizeof plain);
+    size_t needed = MML_NUMBER(answer) == MML_DONE ? MML_VALUE(answer) : SPARE;
+
+    if (call.kind == COUNT)
+        needed = 0;
+    try_room(&call, needed + SPARE);
+    try_room(&call, needed);
+    if (needed > 0)
+        try_room(&call, needed - 1);
+    try_room(&call, 0);
+    return answer;
+}
+
+/* Tries all calls on a record. */
+static void try_record(const uint8_t *bytes, size_t len)
+{
+    uint64_t count = try_call((struct call){ COUNT, bytes, NULL, len, 0, 0 });
+
+    try_call((struct call){ PRINT, bytes, NULL, len, 0, 0 });
+    try_call((struct call){ ORDER, bytes, NULL, len, 0, 0 });
+    if (MML_NUMBER(count) != MML_DONE)
+        return;
+    try_call((struct call){ ORDER, bytes, NULL, len, 0, MML_VALUE(count) - 1 });
+    try_call((struct call){ ORDER, bytes, NULL, len, 0, MML_VALUE(count) });
+}
+
+/* Tries a command and, if it is accepted, its record, also cut short. */
+static void try_command(const char *text, const char *bases)
+{
+    struct call read = { READ, (const uint8_t *)text, (const uint8_t *)bases, strlen(text), strlen(bases), 0 };
+    uint64_t answer = try_call(read);
+    size_t len = MML_VALUE(answer);
+
+    if (MML_NUMBER(answer) != MML_DONE)
+        return;
+    made(&read, read.first, read.second, record, sizeof record);
+    try_record(record, len);
+    try_record(record, len - 1);
+}
+
+/* The call answered so. */
+static void is(uint64_t answer, unsigned number, uint32_t value)
+{
+    calls++;
+    if (MML_NUMBER(answer) != number || MML_VALUE(answer) != value)
+        fail("a call with a null pointer of length 0 answers something else");
+}
+
+/* Null for every pointer of every call, alone and together. */
+static void try_null(void)
+{
+    const uint8_t *text = (const uint8_t *)"A;", *bases = (const uint8_t *)"D";
+    const uint8_t one[] = { MML_TAG_CODE_PIECE, 0, 1, 'A' };
+    uint8_t out[sizeof one];
+
+    is(mml_read(NULL, 0, bases, 1, out, sizeof out), MML_NO_END, 0);
+    is(mml_read(text, 2, NULL, 0, out, sizeof out), MML_DONE, sizeof one);
+    is(mml_read(text, 2, bases, 1, NULL, 0), MML_BUFFER_TOO_SHORT, sizeof one);
+    is(mml_read(NULL, 0, NULL, 0, NULL, 0), MML_NO_END, 0);
+    is(mml_print(NULL, 0, out, sizeof out), MML_RECORD, 0);
+    is(mml_print(one, sizeof one, NULL, 0), MML_BUFFER_TOO_SHORT, 2);
+    is(mml_print(NULL, 0, NULL, 0), MML_RECORD, 0);
+    is(mml_order(NULL, 0, 0, out, sizeof out), MML_RECORD, 0);
+    is(mml_order(one, sizeof one, 0, NULL, 0), MML_BUFFER_TOO_SHORT, sizeof one);
+    is(mml_order(one, sizeof one, 1, NULL, 0), MML_NO_ORDER, 1);
+    is(mml_order(NULL, 0, 0, NULL, 0), MML_RECORD, 0);
+    is(mml_count(NULL, 0), MML_RECORD, 0);
+}
+
+int main(void)
+{
+    memset(filling, FILLING, sizeof filling);
+    see_the_watch();
+    try_null();
+    for (size_t i = 0; i < sizeof commands / sizeof commands[0]; i++)
+        try_command(commands[i].text, commands[i].bases);
+    try_record((const uint8_t *)"", 0);
+    printf("%lu calls, every pointer at %d positions, answer and write alike\n", calls, POSITIONS);
+    return 0;
+}
