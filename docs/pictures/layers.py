@@ -49,7 +49,7 @@ def kind_of(house, name):
     code = (folder / "src" / "lib.rt").read_text(encoding="utf-8")
     if not any(row.lstrip().startswith(("fn ", "pub fn ")) for row in code.splitlines()):
         return "rules"
-    return "exact" if (folder / "specs").is_dir() else "safe"
+    return "exact" if any((folder / "specs").glob("*.antt")) else "safe"
 
 
 def all_below(uses):

@@ -44,15 +44,29 @@ pub fn place(toks: &[u64], i: usize) -> u32 {
     0
 }
 
-// The content of the i-th token: a word's characters, a string's bytes.
-pub fn content<'a>(toks: &[u64], contents: &'a [u8], i: usize) -> &'a [u8] {
+// Where the content of the i-th token begins, a word's characters or a string's bytes; 0 outside the table.
+pub fn start(toks: &[u64], contents: &[u8], i: usize) -> usize {
     if i < toks.len() {
-        let start = table::start(toks[i], contents.len());
-        let end = table::end(toks[i], contents.len());
-        if start <= end {
-            if end <= contents.len() {
-                return &contents[start..end];
-            }
+        return table::start(toks[i], contents.len());
+    }
+    0
+}
+
+// Where the content of the i-th token ends; 0 outside the table.
+pub fn end(toks: &[u64], contents: &[u8], i: usize) -> usize {
+    if i < toks.len() {
+        return table::end(toks[i], contents.len());
+    }
+    0
+}
+
+// The content of the i-th token.
+pub fn content<'a>(toks: &[u64], contents: &'a [u8], i: usize) -> &'a [u8] {
+    let from = start(toks, contents, i);
+    let to = end(toks, contents, i);
+    if from <= to {
+        if to <= contents.len() {
+            return &contents[from..to];
         }
     }
     &contents[0..0]

@@ -8,7 +8,7 @@ ghost use Rattle.table.specs.Table.{verdict};
 ghost use Rattle.bases.specs.Bases.{baseLetters, baseIn};
 
 // "a list of base letters, at most 32"
-const MOST_LETTERS: usize = 32;
+pub const MOST_LETTERS: usize = 32;
 // 1: wrong base letter, or a 33rd.
 const WRONG_LETTER: u8 = 1;
 

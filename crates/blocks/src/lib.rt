@@ -21,7 +21,7 @@ const MORE_OF_CODE: usize = 2;
 // "9th block"
 const MOST_BLOCKS: usize = 8;
 // "the orders pass 65,535"
-const MOST_ORDERS: u64 = 65535;
+pub const MOST_ORDERS: u64 = 65535;
 // The bytes of a block's own field: tag, length, kind.
 const BLOCK_FIELD: u64 = 4;
 

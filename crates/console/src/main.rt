@@ -1,6 +1,6 @@
 // The program behind `./mml`. Each line of standard input is a command or, for some verbs, a record
-// in hexadecimal; crate `verbs` says what is done with it. It is started with four words that the
-// script has judged, MANNER VERB K BASES:
+// in hexadecimal; module `verbs` says what is done with it. It is started with four words that the
+// script has judged, MANNER VERB K BASES; crate `words` takes them:
 //
 //     MANNER  alone  nothing is told at the end
 //             told   at the end one digit goes to descriptor 3, where the script reads it
@@ -11,16 +11,15 @@
 //
 // The digit is the script's status: 0 every line was served, 1 at least one was refused, 2 the words
 // are wrong, 3 input or output failed. No Rattle program ends with a status of its own.
-mod words;
+mod verbs;
 
-use libc::STDERR_FILENO;
 use lines::BLOCK;
 use lines::Got;
 use lines::Input;
-use verbs::Outcome;
-use verbs::Verb;
+use replies::Outcome;
 use words::Asked;
 use words::Manner;
+use words::Verb;
 
 // The longest command has 1,024 bytes. Of a longer line one more is kept, and the library refuses.
 const COMMAND_LINE: usize = 1025;
@@ -29,36 +28,13 @@ const RECORD_LINE: usize = 131072;
 // The longest list of bases has 32 letters. Of a longer one, too, one more is kept.
 const BASES: usize = 33;
 
-// The descriptor where the script reads the digit.
-const SCRIPT: i32 = 3;
-
 // Serves what the words ask, and tells what came of it.
 fn main() {
     let manner = words::how();
     match words::what(manner) {
-        Asked::Commands(verb) => tell(manner, digit(serve_commands(manner, verb))),
-        Asked::Records(verb) => tell(manner, digit(serve_records(manner, verb))),
-        Asked::Wrong => tell(manner, b'2'),
-    }
-}
-
-// The digit of what came of all lines.
-fn digit(outcome: Outcome) -> u8 {
-    match outcome {
-        Outcome::Served => b'0',
-        Outcome::Refused => b'1',
-        Outcome::Failed => b'3',
-    }
-}
-
-// Tells the script the digit, if it listens.
-fn tell(manner: Manner, digit: u8) {
-    match manner {
-        Manner::Alone => {}
-        Manner::Unknown => {}
-        _ => {
-            io::write_all(SCRIPT, &[digit]);
-        }
+        Asked::Commands(verb) => words::tell(manner, replies::digit(serve_commands(manner, verb))),
+        Asked::Records(verb) => words::tell(manner, replies::digit(serve_records(manner, verb))),
+        Asked::Wrong => words::tell(manner, b'2'),
     }
 }
 
@@ -71,7 +47,7 @@ fn serve_commands(manner: Manner, verb: Verb) -> Outcome {
     serve(
         manner,
         verb,
-        lines::front(&letters, n),
+        figures::front(&letters, n),
         &mut block,
         &mut line,
     )
@@ -102,14 +78,14 @@ fn serve(
                 return end(manner, worst);
             }
             Got::Failed => {
-                return unread();
+                return replies::unread();
             }
             Got::Line { kept, long, rest } => {
-                let outcome = verbs::serve(verb, bases, lines::front(line, kept), long);
-                if is_failure(outcome) {
-                    return unwritten();
+                let outcome = verbs::serve(verb, bases, figures::front(line, kept), long);
+                if replies::is_failure(outcome) {
+                    return replies::unwritten();
                 }
-                worst = worse(worst, outcome);
+                worst = replies::worse(worst, outcome);
                 input = rest;
             }
         }
@@ -120,52 +96,16 @@ fn serve(
 
 // Asks for the next line, and reads it.
 fn next_line(manner: Manner, block: &mut [u8; BLOCK], input: Input, line: &mut [u8]) -> Got {
-    if prompt(manner, b"mml> ") {
+    if words::prompt(manner, b"mml> ") {
         return lines::next_line(block, input, line);
     }
     Got::Failed
 }
 
-// Writes a text to the operator who types, and answers whether it was written, or need not be.
-fn prompt(manner: Manner, text: &[u8]) -> bool {
-    match manner {
-        Manner::Typed => io::write_all(STDERR_FILENO, text),
-        _ => true,
-    }
-}
-
 // What came of all lines, at the end of the input. What is typed next stands in a new line.
 fn end(manner: Manner, worst: Outcome) -> Outcome {
-    if prompt(manner, b"\n") {
+    if words::prompt(manner, b"\n") {
         return worst;
     }
     Outcome::Failed
-}
-
-// Says that the input cannot be read.
-fn unread() -> Outcome {
-    io::write_all(STDERR_FILENO, b"mml: standard input cannot be read\n");
-    Outcome::Failed
-}
-
-// Says that an answer could not be written.
-fn unwritten() -> Outcome {
-    io::write_all(STDERR_FILENO, b"mml: an answer cannot be written\n");
-    Outcome::Failed
-}
-
-// Whether an answer could not be written.
-fn is_failure(outcome: Outcome) -> bool {
-    match outcome {
-        Outcome::Failed => true,
-        _ => false,
-    }
-}
-
-// What came of the lines so far and of one more, of which neither failed.
-fn worse(so_far: Outcome, more: Outcome) -> Outcome {
-    match more {
-        Outcome::Served => so_far,
-        _ => more,
-    }
 }

@@ -1,32 +1,49 @@
 // Which group rule is broken (14), told from what stands at the place and before it.
+use phrases::Hint;
 use units::Word;
 
-// The broken rule. `own` and `first` are the numbers of units of this argument and of the value's first one. Where bases differ their
-// letters are told. `Unclear` says nothing.
-pub enum Group {
-    Units { own: usize, first: usize },
-    UpperBelow,
-    IncrementZero,
-    IncrementFraction,
-    IncrementBase { own: u8, ends: u8 },
-    IncrementOther,
-    OnlyCompound,
-    FiveUnits,
-    BehindShort,
-    BehindUpper,
-    BehindIncrement,
-    GoesOn,
-    WantsHyphen,
-    WantsNone,
-    LowerOther,
-    UpperOther,
-    KeyedEnd,
-    EndFraction,
-    EndBases { lower: u8, upper: u8 },
-    SecondIncrement,
-    NoRange,
-    Unclear,
-}
+// The broken rule: keys of the catalogue's phrases. Numbers come into the first two, letters into the next two.
+const UNITS: u8 = b'u';
+
+const BELOW: u8 = b'b';
+
+const INCREMENT_BASE: u8 = b'i';
+
+const END_BASES: u8 = b'e';
+
+const GOES_ON: u8 = b'g';
+
+const WANTS_HYPHEN: u8 = b'-';
+
+const WANTS_NONE: u8 = b'&';
+
+const LOWER_OTHER: u8 = b'l';
+
+const UPPER_OTHER: u8 = b'h';
+
+const KEYED_END: u8 = b'k';
+
+const END_FRACTION: u8 = b'q';
+
+const INCREMENT_ZERO: u8 = b'0';
+
+const INCREMENT_FRACTION: u8 = b'f';
+
+const INCREMENT_OTHER: u8 = b'n';
+
+const BEHIND_INCREMENT: u8 = b'o';
+
+const SECOND_INCREMENT: u8 = b's';
+
+const NO_RANGE: u8 = b'r';
+
+const ONLY_COMPOUND: u8 = b'c';
+
+const FIVE_UNITS: u8 = b'5';
+
+const BEHIND_SHORT: u8 = b't';
+
+const BEHIND_UPPER: u8 = b'a';
 
 // A unit as an end of a range or an increment.
 enum Number {
@@ -37,7 +54,55 @@ enum Number {
 }
 
 // The rule that the t-th token breaks, in a place of this base.
-pub fn why_group(toks: &[u64], contents: &[u8], base: u8, t: usize) -> Group {
+pub fn why_group(toks: &[u64], contents: &[u8], base: u8, t: usize) -> Hint {
+    let key = rule(toks, contents, base, t);
+    match key {
+        UNITS => units_differ(toks, t),
+        BELOW => below(toks, contents, t),
+        INCREMENT_BASE => bases_differ(
+            key,
+            letter_of(toks, contents, base, t),
+            letter_before(toks, contents, base, t, 2),
+        ),
+        END_BASES => bases_differ(
+            key,
+            letter_before(toks, contents, base, t, 1),
+            letter_behind(toks, contents, base, t),
+        ),
+        _ => phrases::plain(key),
+    }
+}
+
+// The number of units of the argument at the t-th token differs from that of the value's first one.
+fn units_differ(toks: &[u64], t: usize) -> Hint {
+    let mut hint = phrases::plain(UNITS);
+    hint.one = units_from(toks, t);
+    hint.two = units_from(toks, around::value_start(toks, t));
+    hint
+}
+
+// The upper end, the t-th token, lies below the lower, which stands two tokens before it.
+fn below(toks: &[u64], contents: &[u8], t: usize) -> Hint {
+    let mut hint = phrases::plain(BELOW);
+    hint.one = around::start(toks, contents, t);
+    hint.two = around::end(toks, contents, t);
+    if 2 <= t {
+        hint.three = around::start(toks, contents, t - 2);
+        hint.four = around::end(toks, contents, t - 2);
+    }
+    hint
+}
+
+// Two bases differ.
+fn bases_differ(key: u8, letter: u8, other: u8) -> Hint {
+    let mut hint = phrases::plain(key);
+    hint.letter = letter;
+    hint.other = other;
+    hint
+}
+
+// The key of the rule that the t-th token breaks.
+fn rule(toks: &[u64], contents: &[u8], base: u8, t: usize) -> u8 {
     if around::is_unit(toks, t) {
         return unit(toks, contents, base, t);
     }
@@ -50,30 +115,27 @@ pub fn why_group(toks: &[u64], contents: &[u8], base: u8, t: usize) -> Group {
         return increment_sign(before);
     }
     if kind == table::AMP_DASH {
-        return Group::OnlyCompound;
+        return ONLY_COMPOUND;
     }
     if kind <= table::AMP_AMP {
         return range_sign(toks, contents, base, t);
     }
-    Group::Unclear
+    phrases::UNKNOWN
 }
 
 // The rule that a unit breaks, by the separator before it.
-fn unit(toks: &[u64], contents: &[u8], base: u8, t: usize) -> Group {
+fn unit(toks: &[u64], contents: &[u8], base: u8, t: usize) -> u8 {
     let before = around::kind_before(toks, t, 1);
     if before <= table::AMP_AMP {
-        return Group::UpperBelow;
+        return BELOW;
     }
     if before == table::AMP {
-        return Group::Units {
-            own: units_from(toks, t),
-            first: units_from(toks, around::value_start(toks, t)),
-        };
+        return UNITS;
     }
     if before == table::PLUS_PLUS {
         return increment(toks, contents, base, t);
     }
-    Group::Unclear
+    phrases::UNKNOWN
 }
 
 // How many units joined by `-` begin with the i-th token.
@@ -91,36 +153,44 @@ fn units_from(toks: &[u64], i: usize) -> usize {
 }
 
 // What is wrong with the increment, the t-th token.
-fn increment(toks: &[u64], contents: &[u8], base: u8, t: usize) -> Group {
+fn increment(toks: &[u64], contents: &[u8], base: u8, t: usize) -> u8 {
     match token_number(toks, contents, base, t) {
         Number::Whole { letter, value } => {
             if value == 0 {
-                return Group::IncrementZero;
+                return INCREMENT_ZERO;
             }
-            increment_base(letter, letter_before(toks, contents, base, t))
+            if letter == letter_before(toks, contents, base, t, 2) {
+                return phrases::UNKNOWN;
+            }
+            INCREMENT_BASE
         }
-        Number::Fraction => Group::IncrementFraction,
-        _ => Group::IncrementOther,
+        Number::Fraction => INCREMENT_FRACTION,
+        _ => INCREMENT_OTHER,
     }
 }
 
-// The base of the upper end before the increment at the t-th token; 0 where it is no number.
-fn letter_before(toks: &[u64], contents: &[u8], base: u8, t: usize) -> u8 {
-    if t < 2 {
-        return 0;
+// The base of the number `back` tokens before the t-th; 0 where none is there.
+fn letter_before(toks: &[u64], contents: &[u8], base: u8, t: usize, back: usize) -> u8 {
+    if back <= t {
+        return letter_of(toks, contents, base, t - back);
     }
-    match token_number(toks, contents, base, t - 2) {
+    0
+}
+
+// The base of the number behind the t-th token; 0 where none is there.
+fn letter_behind(toks: &[u64], contents: &[u8], base: u8, t: usize) -> u8 {
+    if t < toks.len() {
+        return letter_of(toks, contents, base, t + 1);
+    }
+    0
+}
+
+// The base of the number that the i-th token is; 0 where it is none.
+fn letter_of(toks: &[u64], contents: &[u8], base: u8, i: usize) -> u8 {
+    match token_number(toks, contents, base, i) {
         Number::Whole { letter, value } => letter,
         _ => 0,
     }
-}
-
-// Whether the base of an increment is at fault.
-fn increment_base(own: u8, ends: u8) -> Group {
-    if own == ends {
-        return Group::Unclear;
-    }
-    Group::IncrementBase { own, ends }
 }
 
 // The i-th token as a number.
@@ -150,43 +220,43 @@ fn word_number(word: &[u8], base: u8) -> Number {
 }
 
 // The rule that a `-` breaks: `before` is the separator before the unit on its left.
-fn hyphen(before: u8) -> Group {
+fn hyphen(before: u8) -> u8 {
     if before <= table::AMP_AMP {
-        return Group::BehindUpper;
+        return BEHIND_UPPER;
     }
     if before == table::AMP_DASH {
-        return Group::BehindShort;
+        return BEHIND_SHORT;
     }
     if before == table::PLUS_PLUS {
-        return Group::BehindIncrement;
+        return BEHIND_INCREMENT;
     }
     if before == table::DASH {
-        return Group::FiveUnits;
+        return FIVE_UNITS;
     }
-    Group::Unclear
+    phrases::UNKNOWN
 }
 
 // The rule that a `++` breaks.
-fn increment_sign(before: u8) -> Group {
+fn increment_sign(before: u8) -> u8 {
     if before == table::PLUS_PLUS {
-        return Group::SecondIncrement;
+        return SECOND_INCREMENT;
     }
-    Group::NoRange
+    NO_RANGE
 }
 
 // The rule that the `&&` or `&&-` at the t-th token breaks.
-fn range_sign(toks: &[u64], contents: &[u8], base: u8, t: usize) -> Group {
+fn range_sign(toks: &[u64], contents: &[u8], base: u8, t: usize) -> u8 {
     let before = around::kind_before(toks, t, 2);
     if is_range(before) {
-        return Group::GoesOn;
+        return GOES_ON;
     }
     if around::kind(toks, t) == own_sign(before) {
         return ends(toks, contents, base, t);
     }
     if own_sign(before) == table::AMP_AMP {
-        return Group::WantsNone;
+        return WANTS_NONE;
     }
-    Group::WantsHyphen
+    WANTS_HYPHEN
 }
 
 // Does a separator of this kind stand only in a range?
@@ -206,36 +276,33 @@ fn own_sign(before: u8) -> u8 {
 }
 
 // What is wrong with the ends around the t-th token.
-fn ends(toks: &[u64], contents: &[u8], base: u8, t: usize) -> Group {
+fn ends(toks: &[u64], contents: &[u8], base: u8, t: usize) -> u8 {
     if t == 0 {
-        return Group::Unclear;
+        return phrases::UNKNOWN;
     }
     if t < toks.len() {
         let upper = token_number(toks, contents, base, t + 1);
         return match token_number(toks, contents, base, t - 1) {
             Number::Whole { letter, value } => upper_end(letter, upper),
-            Number::Fraction => Group::EndFraction,
-            Number::Keyed => Group::KeyedEnd,
-            Number::Other => Group::LowerOther,
+            Number::Fraction => END_FRACTION,
+            Number::Keyed => KEYED_END,
+            Number::Other => LOWER_OTHER,
         };
     }
-    Group::Unclear
+    phrases::UNKNOWN
 }
 
 // What is wrong with the upper end behind a lower one of this base.
-fn upper_end(lower: u8, upper: Number) -> Group {
+fn upper_end(lower: u8, upper: Number) -> u8 {
     match upper {
         Number::Whole { letter, value } => {
             if letter == lower {
-                return Group::Unclear;
+                return phrases::UNKNOWN;
             }
-            Group::EndBases {
-                lower,
-                upper: letter,
-            }
+            END_BASES
         }
-        Number::Fraction => Group::EndFraction,
-        Number::Keyed => Group::KeyedEnd,
-        Number::Other => Group::UpperOther,
+        Number::Fraction => END_FRACTION,
+        Number::Keyed => KEYED_END,
+        Number::Other => UPPER_OTHER,
     }
 }

@@ -1,18 +1,11 @@
 // What the programs over the library share: the lines of standard input, however they arrive (from
-// a file or a pipe, typed or pasted), digits, and a record's own base letters.
-mod letters;
-mod numbers;
+// a file or a pipe, typed or pasted), and bytes written in hexadecimal.
+mod hexadecimal;
 
-pub use letters::own_bases;
-pub use numbers::Decoded;
-pub use numbers::Number;
-pub use numbers::decimal;
-pub use numbers::decode;
-pub use numbers::write_hex;
+pub use hexadecimal::write_hex;
 ghost use Prim.Native.Nat.{_≤_};
 ghost use mathlib.Core.Path.{_≡_};
 ghost use mathlib.Core.Bool.{false};
-ghost use lib.ListN.{take};
 use libc::STDIN_FILENO;
 
 // How many bytes are read at a time.
@@ -78,17 +71,6 @@ pub fn next_line(block: &mut [u8; BLOCK], input: Input, line: &mut [u8]) -> Got 
         turns -= 1;
     }
     Got::Failed
-}
-
-// The first n bytes, or all where there are fewer.
-pub fn front(bytes: &[u8], n: usize) -> &[u8]
-    ensures { λ r. ⌜ now r ≡ take n (now (bytes .entry)) ⌝ }
-{
-    if n <= bytes.len() {
-        &bytes[0..n]
-    } else {
-        bytes
-    }
 }
 
 // The input with bytes to serve: where none are left it reads once.

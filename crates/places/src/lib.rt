@@ -20,7 +20,7 @@ ghost use Rattle.parts.specs.Parts.{placeOr};
 ghost use Rattle.places.specs.Places.{valueRead, placeRead, cutIn, Sized};
 
 // "33rd place of the command"
-const MOST_PLACES: usize = 32;
+pub const MOST_PLACES: usize = 32;
 // "A name is 1 to 4 pieces": so many behind the first.
 const MORE_OF_NAME: usize = 3;
 // The bytes of a place's own field: tag, length, letter.

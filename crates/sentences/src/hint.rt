@@ -1,57 +1,77 @@
-// One more sentence on a refusal, worked out from the line, its bases, the number and the place alone.
+// What can be told of one refusal, worked out from the line, its bases, the number and the place alone.
 ghost use Prim.Native.Nat.{_≤_};
 ghost use lib.ListN.{length};
+use phrases::Hint;
 use tokens::Filled;
-
-// The longest command.
-const MOST_TEXT: usize = 1024;
 
 // The refusal of a word or a string that is too long, and of other limits.
 const TOO_MANY: u8 = 15;
 
-// Writes the sentence for this line.
-pub fn write_hint(fd: i32, line: &[u8], bases: &[u8], number: u8, place: u32) -> bool {
-    let at = place as usize;
+// Keys of the catalogue's phrases: of a command and of a record that is too long (2), and of a record (18).
+const SHORTER: u8 = b's';
+
+const LONG_RECORD: u8 = b'r';
+
+const RECORD: u8 = b'r';
+
+// Writes what is told of a line.
+pub fn write_line_hint(fd: i32, line: &[u8], bases: &[u8], number: u8, place: u32) -> bool {
+    if is_scanned(number) {
+        if line.len() <= tokens::MOST_TEXT {
+            return write_scanned(fd, line, bases, number, place);
+        }
+    }
+    phrases::write_hint(
+        fd,
+        line,
+        b"",
+        number,
+        text_hint(line, bases, number, place as usize),
+    )
+}
+
+// Is a refusal told from the tokens?
+fn is_scanned(number: u8) -> bool {
+    6 <= number && number <= 16
+}
+
+// What is told of a line without its tokens.
+fn text_hint(line: &[u8], bases: &[u8], number: u8, place: usize) -> Hint {
     match number {
-        1 => text_words::write_base(fd, bases, at),
-        2 => text_words::write_shorter(fd),
-        3 => text_words::write_byte(fd, line, at),
-        4 => text_words::write_open(fd, scan::byte(line, at)),
-        5 => text_words::write_stray(fd, line, at),
-        17 => size_words::write_room(fd, place as u64),
-        18 => text_words::write_record(fd),
-        19 => size_words::write_orders(fd, place as u64),
-        _ => write_scanned(fd, line, bases, number, place),
+        1 => text_hints::why_base(bases, place),
+        2 => phrases::plain(SHORTER),
+        3 => text_hints::why_byte(scan::byte(line, place)),
+        4 => phrases::plain(text_hints::what_open(scan::byte(line, place))),
+        5 => text_hints::where_stray(line, place),
+        18 => phrases::plain(RECORD),
+        19 => text_hints::which_orders(place),
+        _ => phrases::plain(phrases::UNKNOWN),
     }
 }
 
-// Writes the sentence for a record.
+// Writes what is told of a record.
 pub fn write_record_hint(fd: i32, number: u8) -> bool {
+    phrases::write_hint(fd, b"", b"", number, phrases::plain(record_key(number)))
+}
+
+// What is told of a record.
+fn record_key(number: u8) -> u8 {
     match number {
-        2 => text_words::write_long_record(fd),
-        18 => text_words::write_record(fd),
-        _ => text_words::write_no_more(fd),
+        2 => LONG_RECORD,
+        18 => RECORD,
+        _ => phrases::UNKNOWN,
     }
 }
 
-// Writes the sentence for a refusal of the tokens of a line, if it has room for a command.
-fn write_scanned(fd: i32, line: &[u8], bases: &[u8], number: u8, place: u32) -> bool {
-    if line.len() <= MOST_TEXT {
-        return write_tokens(fd, line, bases, number, place);
-    }
-    text_words::write_no_more(fd)
-}
-
-// Writes the sentence for a refusal of the tokens of a line.
-fn write_tokens(fd: i32, line: &[u8], bases: &[u8], number: u8, place: u32) -> bool
+// Writes what the tokens tell of a line that has room for a command.
+fn write_scanned(fd: i32, line: &[u8], bases: &[u8], number: u8, place: u32) -> bool
     requires { ⌜ length (now line) ≤ 1024 ⌝ }
 {
     let classes = chars::table();
-    let mut toks = [0u64; MOST_TEXT];
-    let mut contents = [0u8; MOST_TEXT];
-    match tokens::tokens(line, &classes, &mut toks, &mut contents) {
-        Filled::Done { tokens, bytes } => token_words::write_token(
-            fd,
+    let mut toks = [0u64; tokens::MOST_TEXT];
+    let mut contents = [0u8; tokens::MOST_TEXT];
+    let hint = match tokens::tokens(line, &classes, &mut toks, &mut contents) {
+        Filled::Done { tokens, bytes } => token_hint(
             line,
             bases,
             front(&toks, tokens),
@@ -62,8 +82,9 @@ fn write_tokens(fd: i32, line: &[u8], bases: &[u8], number: u8, place: u32) -> b
         Filled::Refused {
             number: found,
             place: at,
-        } => write_length(fd, scan::byte(line, at), found),
-    }
+        } => long_hint(scan::byte(line, at), found),
+    };
+    phrases::write_hint(fd, line, &contents, number, hint)
 }
 
 // The first n tokens, or all where there are fewer.
@@ -74,10 +95,55 @@ fn front(toks: &[u64], n: usize) -> &[u64] {
     toks
 }
 
-// Writes the sentence for a word or a string that is too long.
-fn write_length(fd: i32, first: u8, number: u8) -> bool {
+// What is told of a word or a string that is too long: `first` is its first byte.
+fn long_hint(first: u8, number: u8) -> Hint {
     if number == TOO_MANY {
-        return size_words::write_length(fd, first);
+        return phrases::plain(text_hints::what_long(first));
     }
-    text_words::write_no_more(fd)
+    phrases::plain(phrases::UNKNOWN)
+}
+
+// What is told of the token at the place: of its shape.
+fn token_hint(
+    line: &[u8],
+    bases: &[u8],
+    toks: &[u64],
+    contents: &[u8],
+    number: u8,
+    place: u32,
+) -> Hint {
+    let t = around::index_at(toks, place);
+    match number {
+        6 => phrases::plain(text_hints::where_end(line, toks.len())),
+        7 => phrases::plain(shape_hints::what_behind(toks, t)),
+        8 => phrases::plain(shape_hints::why_code(toks, t)),
+        9 => shape_hints::why_kind(line, bases, toks, contents, t),
+        10 => phrases::plain(shape_hints::why_name(toks, t)),
+        11 => shape_hints::why_value(toks, t),
+        _ => unit_hint(bases, toks, contents, number, t),
+    }
+}
+
+// What is told of the t-th token: of what a value says.
+fn unit_hint(bases: &[u8], toks: &[u64], contents: &[u8], number: u8, t: usize) -> Hint {
+    let n = around::place_number(toks, t);
+    let base = around::base(bases, n);
+    let word = around::content(toks, contents, t);
+    match number {
+        12 => misfit_hint(toks, contents, t, n, base),
+        13 => unit_hints::why_big(word, base),
+        14 => group_hints::why_group(toks, contents, base, t),
+        15 => phrases::plain(size_hints::which_limit(toks, t)),
+        _ => size_hints::which_size(toks, contents, bases, t),
+    }
+}
+
+// What is told of the t-th token, which is no unit under the base of the n-th place.
+fn misfit_hint(toks: &[u64], contents: &[u8], t: usize, n: usize, base: u8) -> Hint {
+    let mut hint = unit_hints::why_unit(around::content(toks, contents, t), base);
+    hint.lead = base;
+    hint.one = n;
+    hint.three = around::start(toks, contents, t);
+    hint.four = around::end(toks, contents, t);
+    hint
 }

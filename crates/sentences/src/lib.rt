@@ -1,8 +1,10 @@
 // What an operator is told of a refusal: the line, a caret under the place, a sentence for the number, and one for this line.
 mod hint;
 
-pub use refusals::write_refusal;
 pub use window::point;
+
+// The key of the phrase that a refusal has whatever the line is.
+const GENERAL: u8 = b'.';
 
 // The refusal whose place is an index of the list of bases.
 const WRONG_BASE: u8 = 1;
@@ -14,7 +16,7 @@ const LAST_OF_LINE: u8 = 16;
 pub fn show(fd: i32, line: &[u8], bases: &[u8], number: u8, place: u32) -> bool {
     if write_place(fd, line, bases, number, place as usize) {
         if write_refusal(fd, number, place) {
-            if hint::write_hint(fd, line, bases, number, place) {
+            if hint::write_line_hint(fd, line, bases, number, place) {
                 return io::write_all(fd, b"\n");
             }
         }
@@ -43,4 +45,18 @@ fn write_place(fd: i32, line: &[u8], bases: &[u8], number: u8, place: usize) -> 
         return point(fd, line, place);
     }
     window::write_line(fd, line)
+}
+
+// Writes number, place and general phrase of a refusal, in one line.
+pub fn write_refusal(fd: i32, number: u8, place: u32) -> bool {
+    write_number(fd, b"refused ", number as u64)
+        && write_number(fd, b" at ", place as u64)
+        && io::write_all(fd, b": ")
+        && phrases::write_hint(fd, b"", b"", number, phrases::plain(GENERAL))
+        && io::write_all(fd, b"\n")
+}
+
+// Writes words and a number.
+fn write_number(fd: i32, words: &[u8], n: u64) -> bool {
+    io::write_all(fd, words) && io::print_decimal(fd, n)
 }

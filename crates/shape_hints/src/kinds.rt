@@ -1,47 +1,47 @@
 // Why a place differs from the first one of its block (9).
 ghost use Prim.Native.Nat.{_≤_};
+use phrases::Hint;
 
 // A numeral with so many digits, the fraction's among them, is within every limit.
 const MOST_DIGITS: usize = 9;
 
-// How a place differs from the first of its block: that one is named or not, or empty; this one is the other, or empty. `Fraction` has
-// the bytes of the text from the name on, the comma's and the end's place; `Comma` is a fraction that is not repeated.
-pub enum Kind {
-    Fraction {
-        from: usize,
-        comma: usize,
-        to: usize,
-    },
-    Comma,
-    Unnamed,
-    Omitted,
-    Named,
-    NamedAfterOmitted,
-}
+// How a place differs from the first of its block: that one is named or not, or empty; this one is the other, or empty. FRACTION tells the
+// fraction that was meant, COMMA does not.
+const FRACTION: u8 = b'f';
+
+const COMMA: u8 = b'c';
+
+const UNNAMED: u8 = b'u';
+
+const OMITTED: u8 = b'o';
+
+const NAMED: u8 = b'n';
+
+const NAMED_AFTER_OMITTED: u8 = b'e';
 
 // How the place that begins at the t-th token, or is empty and ends with it, differs from the first of its block.
-pub fn why_kind(line: &[u8], bases: &[u8], toks: &[u64], contents: &[u8], t: usize) -> Kind {
+pub fn why_kind(line: &[u8], bases: &[u8], toks: &[u64], contents: &[u8], t: usize) -> Hint {
     let first = around::block_start(toks, t);
     if around::is_named(toks, first) {
         return unnamed(line, bases, toks, contents, t);
     }
     if around::next_mark(toks, first) == first {
-        return Kind::NamedAfterOmitted;
+        return phrases::plain(NAMED_AFTER_OMITTED);
     }
-    Kind::Named
+    phrases::plain(NAMED)
 }
 
 // How a place without a name differs from a first one with a name.
-fn unnamed(line: &[u8], bases: &[u8], toks: &[u64], contents: &[u8], t: usize) -> Kind {
+fn unnamed(line: &[u8], bases: &[u8], toks: &[u64], contents: &[u8], t: usize) -> Hint {
     if around::next_mark(toks, t) == t {
-        return Kind::Omitted;
+        return phrases::plain(OMITTED);
     }
     if 2 <= t {
         if is_fraction(bases, toks, contents, t) {
             return fraction(line, toks, contents, t);
         }
     }
-    Kind::Unnamed
+    phrases::plain(UNNAMED)
 }
 
 // Do decimal digits stand before and behind the comma, in a place of base D?
@@ -65,29 +65,32 @@ fn is_number(toks: &[u64], contents: &[u8], i: usize) -> bool {
 }
 
 // The fraction that was meant, where both places are a numeral each, few digits in all, with nothing between their bytes.
-fn fraction(line: &[u8], toks: &[u64], contents: &[u8], t: usize) -> Kind
+fn fraction(line: &[u8], toks: &[u64], contents: &[u8], t: usize) -> Hint
     requires { ⌜ 2 ≤ t ⌝ }
 {
     let whole = around::content(toks, contents, t - 2).len();
     let part = around::content(toks, contents, t).len();
-    if MOST_DIGITS < whole {
-        return Kind::Comma;
-    }
-    if MOST_DIGITS - whole < part {
-        return Kind::Comma;
-    }
-    if stands_alone(toks, t) {
-        let from = around::place(toks, around::place_start(toks, t - 2)) as usize;
-        let to = around::place(toks, t) as usize + part;
-        if is_plain(line, from, to) {
-            return Kind::Fraction {
-                from: from,
-                comma: around::place(toks, t - 1) as usize,
-                to: to,
-            };
+    let mut hint = phrases::plain(COMMA);
+    hint.one = around::place(toks, around::place_start(toks, t - 2)) as usize;
+    hint.two = around::place(toks, t - 1) as usize;
+    hint.three = around::place(toks, t) as usize;
+    hint.four = hint.three + part;
+    if is_short(whole, part) {
+        if stands_alone(toks, t) {
+            if is_plain(line, hint.one, hint.four) {
+                hint.key = FRACTION;
+            }
         }
     }
-    Kind::Comma
+    hint
+}
+
+// Are so many digits before and behind the full stop few?
+fn is_short(whole: usize, part: usize) -> bool {
+    if MOST_DIGITS < whole {
+        return false;
+    }
+    part <= MOST_DIGITS - whole
 }
 
 // Is the t-th token a whole place, and is the one before the comma a whole value?

@@ -1,176 +1,204 @@
-// Why a token does not fit where it stands: in the code (8), in a name (10), in a value (11), or behind the command (7).
+// Why a token does not fit where it stands: behind the command (7), in the code (8), in a block (9), in a name (10), in a value (11). What
+// is answered are keys of the catalogue's phrases, or a hint with what comes into one.
 mod kinds;
 
-pub use kinds::Kind;
 pub use kinds::why_kind;
+use phrases::Hint;
 
 // What stands behind the `;` that ends the command (7).
-pub enum Behind {
-    Semicolon,
-    Command,
-}
+const SECOND_SEMICOLON: u8 = b's';
 
-// Why a token does not fit a code (8). `Pieces` is true of every code.
-pub enum Code {
-    Missing,
-    PieceMissing,
-    Quoted,
-    TwoWords,
-    FourPieces,
-    NotJoined,
-    Pieces,
-}
+const SECOND_COMMAND: u8 = b'c';
 
-// Why a token does not fit a name (10). `Pieces` is true of every name.
-pub enum Name {
-    Missing,
-    PieceMissing,
-    First,
-    Later,
-    FivePieces,
-    Pieces,
-}
+// Why a token does not fit a code (8). CODE_PIECES is true of every code.
+const NO_CODE: u8 = b'm';
 
-// Why a token does not fit a value (11): behind or before a separator of this kind a unit is missing, or .. `Units` is true of
-// every value.
-pub enum Value {
-    Empty,
-    SecondEquals,
-    Sign,
-    Behind(u8),
-    Before(u8),
-    TwoWords,
-    TwoStrings,
-    TwoUnits,
-    Units,
-}
+const CODE_PIECE_MISSING: u8 = b'b';
+
+const QUOTED: u8 = b'q';
+
+const TWO_WORDS: u8 = b't';
+
+const FOUR_PIECES: u8 = b'f';
+
+const NOT_JOINED: u8 = b'j';
+
+const CODE_PIECES: u8 = b'p';
+
+// Why a token does not fit a name (10). NAME_PIECES is true of every name.
+const NO_NAME: u8 = b'm';
+
+const NAME_PIECE_MISSING: u8 = b'b';
+
+const FIRST_PIECE: u8 = b'l';
+
+const LATER_PIECE: u8 = b'i';
+
+const FIVE_PIECES: u8 = b'f';
+
+const NAME_PIECES: u8 = b'p';
+
+// Why a token does not fit a value (11).
+const NO_VALUE: u8 = b'e';
+
+const SECOND_EQUALS: u8 = b'=';
+
+const SIGN: u8 = b's';
+
+const BEHIND: u8 = b'b';
+
+const BEFORE: u8 = b'a';
+
+const UNIT_MISSING: u8 = b'm';
+
+const UNITS_OF_WORDS: u8 = b'w';
+
+const TWO_STRINGS: u8 = b't';
+
+const TWO_UNITS: u8 = b'u';
 
 // What the t-th token is that stands behind the `;`.
-pub fn what_behind(toks: &[u64], t: usize) -> Behind {
+pub fn what_behind(toks: &[u64], t: usize) -> u8 {
     if around::kind(toks, t) == table::SEMICOLON {
-        return Behind::Semicolon;
+        return SECOND_SEMICOLON;
     }
-    Behind::Command
+    SECOND_COMMAND
 }
 
 // Why the t-th token does not fit the code.
-pub fn why_code(toks: &[u64], t: usize) -> Code {
+pub fn why_code(toks: &[u64], t: usize) -> u8 {
     if t == 0 {
-        return code_piece(toks, t, Code::Missing);
+        return code_piece(around::kind(toks, t), NO_CODE);
     }
     if around::kind_before(toks, t, 1) == table::DASH {
-        return code_piece(toks, t, Code::PieceMissing);
+        return code_piece(around::kind(toks, t), CODE_PIECE_MISSING);
     }
     code_joint(around::kind(toks, t))
 }
 
-// Why the t-th token is no piece of a code; `missing` where it is none because a separator stands there.
-fn code_piece(toks: &[u64], t: usize, missing: Code) -> Code {
-    let k = around::kind(toks, t);
-    if k == table::STRING {
-        return Code::Quoted;
+// Why a token of this kind is no piece of a code; `missing` where it is none because a separator stands there.
+fn code_piece(kind: u8, missing: u8) -> u8 {
+    if kind == table::STRING {
+        return QUOTED;
     }
-    if k <= table::SEMICOLON {
+    if kind <= table::SEMICOLON {
         return missing;
     }
-    Code::Pieces
+    CODE_PIECES
 }
 
 // Why a token of this kind cannot follow a piece of the code.
-fn code_joint(kind: u8) -> Code {
+fn code_joint(kind: u8) -> u8 {
     if kind == table::WORD {
-        return Code::TwoWords;
+        return TWO_WORDS;
     }
     if kind == table::STRING {
-        return Code::Quoted;
+        return QUOTED;
     }
     if kind == table::DASH {
-        return Code::FourPieces;
+        return FOUR_PIECES;
     }
     if kind <= table::SEMICOLON {
-        return Code::NotJoined;
+        return NOT_JOINED;
     }
-    Code::Pieces
+    CODE_PIECES
 }
 
 // Why the t-th token does not fit a name.
-pub fn why_name(toks: &[u64], t: usize) -> Name {
+pub fn why_name(toks: &[u64], t: usize) -> u8 {
+    let kind = around::kind(toks, t);
     if around::place_start(toks, t) == t {
-        return first_piece(around::kind(toks, t));
+        return first_piece(kind);
     }
     if around::kind_before(toks, t, 1) == table::DASH {
-        return later_piece(around::kind(toks, t));
+        return later_piece(kind);
     }
-    if around::kind(toks, t) == table::DASH {
-        return Name::FivePieces;
+    if kind == table::DASH {
+        return FIVE_PIECES;
     }
-    Name::Pieces
+    NAME_PIECES
 }
 
 // Why a token of this kind does not begin a name.
-fn first_piece(kind: u8) -> Name {
+fn first_piece(kind: u8) -> u8 {
     if kind == table::EQUALS {
-        return Name::Missing;
+        return NO_NAME;
     }
-    Name::First
+    FIRST_PIECE
 }
 
 // Why a token of this kind is no later piece of a name.
-fn later_piece(kind: u8) -> Name {
+fn later_piece(kind: u8) -> u8 {
     if kind <= table::SEMICOLON {
-        return Name::PieceMissing;
+        return NAME_PIECE_MISSING;
     }
-    Name::Later
+    LATER_PIECE
 }
 
 // Why the t-th token does not fit a value.
-pub fn why_value(toks: &[u64], t: usize) -> Value {
-    let k = around::kind(toks, t);
+pub fn why_value(toks: &[u64], t: usize) -> Hint {
+    let kind = around::kind(toks, t);
     let before = around::kind_before(toks, t, 1);
-    if k == table::EQUALS {
-        return Value::SecondEquals;
+    if kind == table::EQUALS {
+        return phrases::plain(SECOND_EQUALS);
     }
-    if k < table::WORD {
-        return separator(k, before);
+    if kind < table::WORD {
+        return separator(kind, before);
     }
-    if k <= table::STRING {
-        return second_unit(k, before);
-    }
-    Value::Units
+    phrases::plain(second_unit(kind, before))
 }
 
-// Why a separator stands where a unit should: `before` is the kind of the token before it.
-fn separator(kind: u8, before: u8) -> Value {
+// Why a separator stands where a unit should: `before` is the kind of the token before it. A `-` was meant as a sign, if no separator that
+// a comment cut off can have been.
+fn separator(kind: u8, before: u8) -> Hint {
+    if before <= table::AMP {
+        return missing(BEHIND, before);
+    }
     if kind == table::DASH {
-        return hyphen(before);
+        return phrases::plain(SIGN);
     }
     if before <= table::DASH {
-        return Value::Behind(before);
+        return missing(BEHIND, before);
     }
     if kind < table::DASH {
-        return Value::Before(kind);
+        return missing(BEFORE, kind);
     }
-    Value::Empty
+    phrases::plain(NO_VALUE)
 }
 
-// Why a `-` stands where a unit should: a sign was meant, if no separator that a comment cut off can have been.
-fn hyphen(before: u8) -> Value {
-    if before <= table::AMP {
-        return Value::Behind(before);
+// A unit is missing on this side of a separator.
+fn missing(side: u8, kind: u8) -> Hint {
+    let mut hint = phrases::plain(sign(kind));
+    hint.lead = side;
+    hint.tail = UNIT_MISSING;
+    hint
+}
+
+// The key of a separator that joins.
+fn sign(kind: u8) -> u8 {
+    match kind {
+        table::AMP_AMP_DASH => b'1',
+        table::AMP_AMP => b'2',
+        table::AMP_DASH => b'3',
+        table::AMP => b'4',
+        table::PLUS_PLUS => b'5',
+        _ => b'6',
     }
-    Value::Sign
 }
 
 // Which units stand side by side.
-fn second_unit(kind: u8, before: u8) -> Value {
+fn second_unit(kind: u8, before: u8) -> u8 {
     if before < table::WORD {
-        return Value::Units;
+        return phrases::UNKNOWN;
     }
-    if kind == before {
-        if kind == table::WORD {
-            return Value::TwoWords;
-        }
-        return Value::TwoStrings;
+    if table::STRING < kind {
+        return phrases::UNKNOWN;
     }
-    Value::TwoUnits
+    if kind != before {
+        return TWO_UNITS;
+    }
+    if kind == table::WORD {
+        return UNITS_OF_WORDS;
+    }
+    TWO_STRINGS
 }

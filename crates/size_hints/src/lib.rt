@@ -1,51 +1,48 @@
-// Which limit is passed: of a word, a string, blocks, places or elements (15), of arguments or orders (16).
+// Which limit is passed: of blocks, places or elements (15), of arguments or orders (16).
 use elements::Value;
+use phrases::Hint;
 
-// A command has so many places at most.
-const MOST_PLACES: usize = 32;
+// What is one too many (15): a block, a place, an element.
+const BLOCKS: u8 = b'b';
 
-// A value has so many arguments at most.
-const MOST_ARGUMENTS: u64 = 4096;
+const PLACES: u8 = b'p';
 
-// A command has so many orders at most.
-const MOST_ORDERS: u64 = 65535;
+const ELEMENTS: u8 = b'e';
 
-// What is too many (15): a block, a place, an element.
-pub enum Limit {
-    Blocks,
-    Places,
-    Elements,
-}
+// What is too many (16): arguments of the value, orders with it.
+const ARGUMENTS: u8 = b'a';
 
-// What is too many (16): so many arguments of the value, so many orders with it. `Unclear` says nothing.
-pub enum Size {
-    Arguments(u64),
-    Orders(u64),
-    Unclear,
-}
+const ORDERS: u8 = b'o';
 
-// What is too many at the t-th token.
-pub fn which_limit(toks: &[u64], t: usize) -> Limit {
-    if MOST_PLACES < around::place_number(toks, t) {
-        return Limit::Places;
+// What is one too many at the t-th token.
+pub fn which_limit(toks: &[u64], t: usize) -> u8 {
+    if places::MOST_PLACES < around::place_number(toks, t) {
+        return PLACES;
     }
     if around::kind(toks, t) == table::COLON {
-        return Limit::Blocks;
+        return BLOCKS;
     }
-    Limit::Elements
+    ELEMENTS
 }
 
-// What is too many in the value that begins with the t-th token, or with it.
-pub fn which_size(toks: &[u64], contents: &[u8], bases: &[u8], t: usize) -> Size {
+// What is too many with the value that begins with the t-th token.
+pub fn which_size(toks: &[u64], contents: &[u8], bases: &[u8], t: usize) -> Hint {
     let own = arguments(toks, contents, bases, t);
-    if MOST_ARGUMENTS < own {
-        return Size::Arguments(own);
+    if values::MOST_ARGUMENTS < own {
+        return counted(ARGUMENTS, own);
     }
     let orders = orders(toks, contents, bases, t);
-    if MOST_ORDERS < orders {
-        return Size::Orders(orders);
+    if blocks::MOST_ORDERS < orders {
+        return counted(ORDERS, orders);
     }
-    Size::Unclear
+    phrases::plain(phrases::UNKNOWN)
+}
+
+// A phrase with a number.
+fn counted(key: u8, n: u64) -> Hint {
+    let mut hint = phrases::plain(key);
+    hint.one = n as usize;
+    hint
 }
 
 // The product of the arguments of all values up to the one that begins with the t-th token.
@@ -75,11 +72,11 @@ fn arguments(toks: &[u64], contents: &[u8], bases: &[u8], i: usize) -> u64 {
         return 1;
     }
     let base = around::base(bases, around::place_number(toks, i));
-    counted(elements::elements(&toks[i..end], contents, base))
+    args_of(elements::elements(&toks[i..end], contents, base))
 }
 
 // The number of arguments of a value; 1 for one that is wrong.
-fn counted(value: Value) -> u64 {
+fn args_of(value: Value) -> u64 {
     match value {
         Value::Elements { count, args } => args,
         Value::Wrong { no, place } => 1,

@@ -11,7 +11,7 @@ ghost use Rattle.chars.specs.Classes.{table};
 ghost use Rattle.tokens.specs.Filled.{IsFilled};
 
 // So many bytes a text has at most.
-const MOST_TEXT: usize = 1024;
+pub const MOST_TEXT: usize = 1024;
 // 2: the text has more.
 const TOO_LONG: u8 = 2;
 // 3: a byte is not permitted.

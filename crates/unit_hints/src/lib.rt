@@ -1,72 +1,119 @@
 // Why a word is no unit under the base of its place (12), and which limit a numeral passes (13).
 ghost use Prim.Native.Nat.{_≤_};
+use phrases::Hint;
 
 // What a prefix takes: a letter and the mark.
 const PREFIX: usize = 2;
 
-// How many fraction digits a numeral has at most.
-const MOST_FRACTION: usize = 9;
-
 // From a capital letter to the small one.
 const SMALL: u8 = 32;
 
-// Why a word is no unit. The letters are those of a prefix. `Signs` is true of every word that is none.
-pub enum Misfit {
-    MarkInside,
-    UnknownPrefix(u8),
-    SmallPrefix(u8),
-    KeyedOnly,
-    DigitsMissing(u8),
-    DigitsOf(u8),
-    TwoStops,
-    StopBare,
-    StopInName,
-    Fraction,
-    KeyedStop,
-    Star,
-    Keys,
-    Digits,
-    Signs,
-}
+// A numeral with so many characters, its full stop among them, is within every limit.
+const SHORT: usize = 10;
 
-// Which limit a numeral passes: it has so many fraction digits; it is too big when its full stop is left out; it is too big, in the
-// base of this letter.
-pub enum Excess {
-    Fraction(usize),
-    Stop,
-    Value(u8),
-}
+// Why a word is no unit: the keys of the catalogue's phrases.
+const MARK_INSIDE: u8 = b'\'';
+
+const UNKNOWN_PREFIX: u8 = b'u';
+
+const SMALL_PREFIX: u8 = b's';
+
+const KEYED_ONLY: u8 = b'y';
+
+const DIGITS_MISSING: u8 = b'm';
+
+const DIGITS_BEHIND: u8 = b'p';
+
+const DIGITS: u8 = b'g';
+
+const TWO_STOPS: u8 = b't';
+
+const STOP_BARE: u8 = b'e';
+
+const STOP_IN_NAME: u8 = b'n';
+
+const FRACTION: u8 = b'f';
+
+const SHORT_FRACTION: u8 = b'w';
+
+const KEYED_STOP: u8 = b'q';
+
+const STAR: u8 = b'*';
+
+const KEYS: u8 = b'#';
+
+// Which limit a numeral passes: it has too many fraction digits; it is too big when its full stop is left out. A numeral that is too big
+// has the letter of its base for a key.
+const FRACTION_DIGITS: u8 = b'f';
+
+const WITHOUT_STOP: u8 = b's';
 
 // Why a word is no unit under the base.
-pub fn why_unit(word: &[u8], base: u8) -> Misfit {
+pub fn why_unit(word: &[u8], base: u8) -> Hint {
     if has(word, b'\'') {
         return marked(word, base);
     }
     if has(word, b'.') {
-        return stopped(word, base);
+        return phrases::plain(stopped(word, base));
     }
+    unmarked(word, base)
+}
+
+// Why a word without a mark or a full stop is no unit.
+fn unmarked(word: &[u8], base: u8) -> Hint {
     if has(word, b'*') {
-        if base == b'K' {
-            return Misfit::Keys;
-        }
-        return Misfit::Star;
+        return phrases::plain(starred(base));
     }
     if units::all_decimal(word, 0) {
-        return Misfit::Digits;
+        return digits_of(DIGITS, base);
     }
-    Misfit::Signs
+    phrases::plain(phrases::UNKNOWN)
+}
+
+// Why a word with a star is no unit.
+fn starred(base: u8) -> u8 {
+    if base == b'K' {
+        return KEYS;
+    }
+    STAR
+}
+
+// A phrase on the digits of a base, with its letter and, behind it, the digits.
+fn digits_of(key: u8, letter: u8) -> Hint {
+    let mut hint = phrases::plain(key);
+    hint.letter = letter;
+    hint.tail = small(letter);
+    hint
+}
+
+// The small letter of a base.
+fn small(letter: u8) -> u8 {
+    match letter {
+        b'H' => b'h',
+        b'O' => b'o',
+        b'B' => b'b',
+        b'K' => b'k',
+        _ => b'd',
+    }
 }
 
 // Which limit a numeral passes under the base.
-pub fn why_big(word: &[u8], base: u8) -> Excess {
+pub fn why_big(word: &[u8], base: u8) -> Hint {
     let fraction = behind_stop(word);
-    if MOST_FRACTION < fraction {
-        return Excess::Fraction(fraction);
+    let mut hint = phrases::plain(excess(word, base, fraction));
+    hint.one = fraction;
+    hint
+}
+
+// Which limit a numeral passes that has so many fraction digits.
+fn excess(word: &[u8], base: u8, fraction: usize) -> u8 {
+    if digits::MOST_FRACTION < fraction {
+        return FRACTION_DIGITS;
     }
     if 0 < fraction {
-        return Excess::Stop;
+        return WITHOUT_STOP;
     }
-    Excess::Value(own_base(word, base))
+    own_base(word, base)
 }
 
 // Has a word, or any bytes, this character?
@@ -115,54 +162,48 @@ fn own_base(word: &[u8], base: u8) -> u8 {
 }
 
 // Why a word with a mark is no unit.
-fn marked(word: &[u8], base: u8) -> Misfit {
+fn marked(word: &[u8], base: u8) -> Hint {
     if PREFIX <= word.len() {
         if word[1] == b'\'' {
             return prefixed(word.len(), base, word[0]);
         }
     }
-    Misfit::MarkInside
+    phrases::plain(MARK_INSIDE)
 }
 
 // Why a word of so many characters with this prefix is no unit.
-fn prefixed(len: usize, base: u8, letter: u8) -> Misfit {
+fn prefixed(len: usize, base: u8, letter: u8) -> Hint {
     if may_stand(base, letter) {
-        return keys_missing(len, letter);
+        return behind_prefix(len, letter);
     }
+    let capital = capital_of(letter);
+    if may_stand(base, capital) {
+        return lettered(SMALL_PREFIX, capital);
+    }
+    lettered(wrong_prefix(base), letter)
+}
+
+// A phrase with a letter.
+fn lettered(key: u8, letter: u8) -> Hint {
+    let mut hint = phrases::plain(key);
+    hint.letter = letter;
+    hint
+}
+
+// The capital letter of a small one; 0 for a character below these.
+pub fn capital_of(letter: u8) -> u8 {
     if letter < SMALL {
-        return wrong_prefix(base, letter);
+        return 0;
     }
-    if may_stand(base, letter - SMALL) {
-        return Misfit::SmallPrefix(letter - SMALL);
-    }
-    wrong_prefix(base, letter)
+    letter - SMALL
 }
 
 // May a prefix of this letter stand under the base?
 fn may_stand(base: u8, letter: u8) -> bool {
-    if letter == b'K' {
-        return true;
-    }
     if base == b'K' {
-        return false;
+        return letter == b'K';
     }
-    digits::plain_letter(letter)
-}
-
-// Why a prefix may not stand, in capitals or not.
-fn wrong_prefix(base: u8, letter: u8) -> Misfit {
-    if base == b'K' {
-        return Misfit::KeyedOnly;
-    }
-    Misfit::UnknownPrefix(letter)
-}
-
-// What is wrong behind a prefix that may stand.
-fn keys_missing(len: usize, letter: u8) -> Misfit {
-    if len <= PREFIX {
-        return Misfit::DigitsMissing(letter);
-    }
-    Misfit::DigitsOf(letter)
+    is_base(letter)
 }
 
 // Is a byte one of the five base letters?
@@ -173,19 +214,34 @@ pub fn is_base(b: u8) -> bool {
     digits::plain_letter(b)
 }
 
-// Why a word with a full stop is no unit.
-fn stopped(word: &[u8], base: u8) -> Misfit {
+// Why a prefix may not stand, in capitals or not.
+fn wrong_prefix(base: u8) -> u8 {
     if base == b'K' {
-        return Misfit::KeyedStop;
+        return KEYED_ONLY;
     }
-    let stops = count(word, b'.');
+    UNKNOWN_PREFIX
+}
+
+// What is wrong behind a prefix that may stand.
+fn behind_prefix(len: usize, letter: u8) -> Hint {
+    if len <= PREFIX {
+        return lettered(DIGITS_MISSING, letter);
+    }
+    digits_of(DIGITS_BEHIND, letter)
+}
+
+// Why a word with a full stop is no unit.
+fn stopped(word: &[u8], base: u8) -> u8 {
+    if base == b'K' {
+        return KEYED_STOP;
+    }
     if all_stops_and_digits(word) {
-        if 1 < stops {
-            return Misfit::TwoStops;
+        if 1 < count(word, b'.') {
+            return TWO_STOPS;
         }
         return one_stop(word, base);
     }
-    Misfit::StopInName
+    STOP_IN_NAME
 }
 
 // Are a word's characters decimal digits and full stops?
@@ -210,18 +266,21 @@ fn is_stop_or_digit(b: u8) -> bool {
 }
 
 // Why digits with one full stop are no unit: a digit is missing at an end, or the base is not D.
-fn one_stop(word: &[u8], base: u8) -> Misfit {
-    if word.len() == 0 {
-        return Misfit::StopBare;
-    }
+fn one_stop(word: &[u8], base: u8) -> u8 {
     if base == b'D' {
-        return Misfit::StopBare;
+        return STOP_BARE;
     }
     if behind_stop(word) == 0 {
-        return Misfit::StopBare;
+        return STOP_BARE;
+    }
+    if word.len() == 0 {
+        return STOP_BARE;
     }
     if word[0] == b'.' {
-        return Misfit::StopBare;
+        return STOP_BARE;
     }
-    Misfit::Fraction
+    if word.len() <= SHORT {
+        return SHORT_FRACTION;
+    }
+    FRACTION
 }

@@ -17,7 +17,7 @@ const TOO_BIG: u8 = 13;
 
 const TOO_MANY_ORDERS: u8 = 16;
 
-const MOST_ARGUMENTS: u64 = 4096;
+pub const MOST_ARGUMENTS: u64 = 4096;
 
 // 12 and 13 for a word.
 fn word_verdict(u: Word, place: u32) -> Verdict

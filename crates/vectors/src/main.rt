@@ -1,11 +1,11 @@
 // Runs the lines of standard input through the library, and writes what came of each. A line is
 // `BASES|COMMAND`, `@BASES|COMMAND` where the orders are asked for, or `#RECORD` with the record in
 // hexadecimal.
+use figures::Decoded;
+use figures::front;
 use libc::STDOUT_FILENO;
 use lines::BLOCK;
-use lines::Decoded;
 use lines::Got;
-use lines::front;
 use rules::Answer;
 
 // The longest line of the input that is run whole.
@@ -153,7 +153,7 @@ fn write_count(n: u32) {
 fn is_read_again(record: &[u8], text: &[u8]) -> bool {
     let mut bases = [0u8; MOST_PLACES];
     let mut again = io::large_buffer();
-    let n = lines::own_bases(record, &mut bases);
+    let n = figures::own_bases(record, &mut bases);
     match mml::read(text, front(&bases, n), &mut again) {
         Answer::Done(k) => check::same(front(&again, k as usize), record),
         Answer::Refused(_, _) => false,
@@ -165,7 +165,7 @@ fn run_record(digits: &[u8]) {
     io::write_all(STDOUT_FILENO, digits);
     io::write_all(STDOUT_FILENO, b" -> ");
     let mut record = io::large_buffer();
-    match lines::decode(digits, &mut record) {
+    match figures::decode(digits, &mut record) {
         Decoded::Bytes(n) => write_orders(front(&record, n)),
         Decoded::Wrong(_) => {
             io::write_all(STDOUT_FILENO, b"no hexadecimal");

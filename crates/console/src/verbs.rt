@@ -1,0 +1,161 @@
+// What each verb does with one line.
+use figures::Decoded;
+use figures::front;
+use replies::Outcome;
+use rules::Answer;
+use words::Verb;
+
+// The longest command that the printer writes.
+const LONGEST_TEXT: usize = 1024;
+// The most places of a command, each with a base letter.
+const MOST_PLACES: usize = 32;
+
+// Serves a line of `long` bytes, of which `line` has kept the first.
+pub fn serve(verb: Verb, bases: &[u8], line: &[u8], long: usize) -> Outcome {
+    match verb {
+        Verb::Text => serve_record(verb, line, long),
+        Verb::Bases => serve_record(verb, line, long),
+        _ => serve_command(verb, bases, line),
+    }
+}
+
+// Reads a command, and does with its record what the verb asks.
+fn serve_command(verb: Verb, bases: &[u8], line: &[u8]) -> Outcome {
+    let mut record = io::large_buffer();
+    match mml::read(line, bases, &mut record) {
+        Answer::Done(n) => serve_accepted(verb, bases, line, front(&record, n as usize)),
+        Answer::Refused(number, place) => replies::refuse(
+            is_check(verb),
+            bases,
+            line,
+            number,
+            place,
+        ),
+    }
+}
+
+// Is it the verb whose refusals are results?
+fn is_check(verb: Verb) -> bool {
+    match verb {
+        Verb::Check => true,
+        _ => false,
+    }
+}
+
+// Does what the verb asks with the record of a command.
+fn serve_accepted(verb: Verb, bases: &[u8], line: &[u8], record: &[u8]) -> Outcome {
+    match verb {
+        Verb::Check => write_accepted(bases, line, record),
+        Verb::Orders => write_orders(record),
+        Verb::Order(k) => write_order(bases, line, record, k),
+        _ => replies::write_record(record),
+    }
+}
+
+// Says that the command is accepted, how many orders it has and how the printer writes it.
+fn write_accepted(bases: &[u8], line: &[u8], record: &[u8]) -> Outcome {
+    let mut text = [0u8; LONGEST_TEXT];
+    match mml::print(record, &mut text) {
+        Answer::Done(n) => replies::write_accepted(order_count(record), front(&text, n as usize)),
+        Answer::Refused(number, place) => replies::refuse(true, bases, line, number, place),
+    }
+}
+
+// The number of orders of a record that the reader made.
+fn order_count(record: &[u8]) -> u64 {
+    match mml::count(record) {
+        Answer::Done(n) => n as u64,
+        Answer::Refused(_, _) => 0,
+    }
+}
+
+// Writes every order of a record with its number.
+fn write_orders(record: &[u8]) -> Outcome {
+    let mut order = io::large_buffer();
+    let mut text = [0u8; LONGEST_TEXT];
+    number_orders(record, order_count(record), &mut order, &mut text)
+}
+
+// Writes the orders below `count`, in turn.
+fn number_orders(record: &[u8], count: u64, order: &mut [u8], text: &mut [u8]) -> Outcome {
+    let mut k = 0;
+    while k < count {
+        match write_numbered(record, k, order, text) {
+            Outcome::Served => {
+                k += 1;
+            }
+            Outcome::Refused => {
+                return Outcome::Refused;
+            }
+            Outcome::Failed => {
+                return Outcome::Failed;
+            }
+        }
+    }
+    Outcome::Served
+}
+
+// Writes order k behind its number.
+fn write_numbered(record: &[u8], k: u64, order: &mut [u8], text: &mut [u8]) -> Outcome {
+    match order_text(record, k, order, text) {
+        Answer::Done(n) => replies::write_order(k, front(text, n as usize)),
+        Answer::Refused(number, place) => replies::refuse_order(number, place),
+    }
+}
+
+// Writes order k of a record.
+fn write_order(bases: &[u8], line: &[u8], record: &[u8], k: u64) -> Outcome {
+    let mut order = io::large_buffer();
+    let mut text = [0u8; LONGEST_TEXT];
+    match order_text(record, k, &mut order, &mut text) {
+        Answer::Done(n) => replies::write_text(front(&text, n as usize)),
+        Answer::Refused(number, place) => replies::refuse(false, bases, line, number, place),
+    }
+}
+
+// Puts the text of order k of a record into `text`, by way of the order's record.
+fn order_text(record: &[u8], k: u64, order: &mut [u8], text: &mut [u8]) -> Answer {
+    match mml::order(record, k, order) {
+        Answer::Done(n) => mml::print(front(order, n as usize), text),
+        Answer::Refused(number, place) => Answer::Refused(number, place),
+    }
+}
+
+// Takes a line as a record in hexadecimal, and does with it what the verb asks.
+fn serve_record(verb: Verb, line: &[u8], long: usize) -> Outcome {
+    if line.len() < long {
+        return replies::refuse_length();
+    }
+    let mut record = io::large_buffer();
+    match figures::decode(line, &mut record) {
+        Decoded::Bytes(n) => serve_decoded(verb, line, front(&record, n)),
+        Decoded::Wrong(place) => replies::refuse_digits(line, place),
+    }
+}
+
+// Does what the verb asks with a record that `line` gave in hexadecimal.
+fn serve_decoded(verb: Verb, line: &[u8], record: &[u8]) -> Outcome {
+    match verb {
+        Verb::Bases => write_bases(line, record),
+        _ => write_text(line, record),
+    }
+}
+
+// Writes the text of a record.
+fn write_text(line: &[u8], record: &[u8]) -> Outcome {
+    let mut text = [0u8; LONGEST_TEXT];
+    match mml::print(record, &mut text) {
+        Answer::Done(n) => replies::write_text(front(&text, n as usize)),
+        Answer::Refused(number, place) => replies::refuse_record(line, number, place),
+    }
+}
+
+// Writes the base letters of a record, if it is well formed.
+fn write_bases(line: &[u8], record: &[u8]) -> Outcome {
+    let mut letters = [0u8; MOST_PLACES];
+    let n = figures::own_bases(record, &mut letters);
+    match mml::count(record) {
+        Answer::Done(_) => replies::write_text(front(&letters, n)),
+        Answer::Refused(number, place) => replies::refuse_record(line, number, place),
+    }
+}

@@ -1,0 +1,4 @@
+pub mod LettersLaws
+pub mod NumbersExamples
+pub mod NumbersLaws
+pub mod OwnLetters

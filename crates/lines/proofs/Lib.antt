@@ -1,2 +1,0 @@
-pub mod NumbersLaws
-pub mod NumbersExamples
