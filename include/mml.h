@@ -30,7 +30,8 @@
  *
  * THREADS AND MEMORY. The library has no state and allocates nothing: any number of threads
  * may call at once, also from an interrupt or a signal handler that has the stack for it:
- * every call was measured to take less than 16 KiB.
+ * mml_read takes less than 16 KiB, every other call less than 1 KiB, by the frames of the
+ * compiled code.
  *
  * LINKING. libmml.a is x86-64 code for Linux. It calls one function that it does not have,
  * memset, which every C library has; without a C library, give it one.

@@ -1,5 +1,5 @@
 /*
- * stack - the bytes of stack that each call takes; more than 16 KiB is a failure.
+ * stack - the bytes of stack that each call takes; more than its bound is a failure.
  *
  * Each call runs on a stack of its own that is painted before; what is no longer painted was used. A command is read as it is, and
  * with spaces to the longest text, since longer texts are read through longer tables.
@@ -12,23 +12,34 @@
 
 #include "mml.h"
 
-enum { ROOM = 1 << 18, PAINT = 0x5C, ALLOWED = 16384 };
+enum { ROOM = 1 << 18, PAINT = 0x5C, KIBIBYTE = 1024 };
 enum { READ, PRINT, ORDER, COUNT, CALLS };
 
-static const char *const names[CALLS] = { "read", "print", "order", "count" };
+/* Each call, and the bytes of stack that it may take: the reader has its tables of tokens there, the others a row of 32 numbers at most. */
+static const struct {
+    const char *name;
+    size_t allowed;
+} calls[CALLS] = {
+    [READ] = { "read", 16 * KIBIBYTE },
+    [PRINT] = { "print", KIBIBYTE },
+    [ORDER] = { "order", KIBIBYTE },
+    [COUNT] = { "count", KIBIBYTE },
+};
 
 static const char *const commands[] = {
     "SET-ATT:LIN=7-1&&-3,LEV=3.5;",
     "A:0&&4094,0&&15;",
     "CHANGE-TRUNK-GROUP:ROUTE=7-1&&-3&-5&-9&8-2&-5&-6&9-1&&-7++2,LEV=3.5&4.25,OWNER=\"South \"\"B\"\" wing\",P=K'*21#,THR=10%"
     ":1,,UPD8,B'1010,O'777,1-2-3-1&-2&-3&-4&-5&-6&-7&-8,CENTRAL,WEST;",
+    "A:4294967295,4.294967295,0.000000000,H'FFFFFFFF,O'37777777777,B'11111111111111111111111111111111"
+    ",B'0&&B'11111111111111111111111111111111++B'111111111111111111111111111111;",
 };
 
 static uint8_t text[MML_TEXT_MAX];
 static uint8_t record[MML_RECORD_MAX];
 static uint8_t out[MML_RECORD_MAX];
 static size_t text_len, record_len;
-static uint64_t answer;
+static uint64_t k, answer;
 static int call;
 
 static uint8_t room[ROOM];
@@ -55,7 +66,7 @@ static void run(void)
         answer = mml_print(record, record_len, out, sizeof out);
         break;
     case ORDER:
-        answer = mml_order(record, record_len, 0, out, sizeof out);
+        answer = mml_order(record, record_len, k, out, sizeof out);
         break;
     default:
         answer = mml_count(record, record_len);
@@ -96,6 +107,16 @@ static void take(const char *command, size_t len)
     memcpy(record, out, record_len);
 }
 
+/* Runs every call on what was taken up, and keeps the most that each took. */
+static void measure(size_t most[CALLS])
+{
+    for (call = 0; call < CALLS; call++) {
+        size_t bytes = used();
+        if (most[call] < bytes)
+            most[call] = bytes;
+    }
+}
+
 int main(void)
 {
     size_t most[CALLS] = { 0 };
@@ -104,18 +125,17 @@ int main(void)
     for (size_t i = 0; i < 2 * sizeof commands / sizeof commands[0]; i++) {
         const char *command = commands[i / 2];
         take(command, i % 2 == 0 ? strlen(command) : sizeof text);
-        for (call = 0; call < CALLS; call++) {
-            size_t bytes = used();
-            if (most[call] < bytes)
-                most[call] = bytes;
-        }
+        k = 0;
+        measure(most);
+        k = MML_VALUE(mml_count(record, record_len)) - 1;
+        measure(most);
     }
     for (call = 0; call < CALLS; call++) {
-        printf("%-5s %5zu bytes of stack\n", names[call], most[call]);
-        if (ALLOWED < most[call])
+        printf("%-5s %5zu bytes of stack, %5zu allowed\n", calls[call].name, most[call], calls[call].allowed);
+        if (calls[call].allowed < most[call]) {
+            fprintf(stderr, "stack: %s takes more than %zu bytes\n", calls[call].name, calls[call].allowed);
             failed = 1;
+        }
     }
-    if (failed)
-        fprintf(stderr, "stack: a call takes more than %d bytes\n", ALLOWED);
     return failed;
 }
