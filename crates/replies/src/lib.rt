@@ -1,6 +1,8 @@
 // What the console writes of a line, and what became of it.
 use libc::STDERR_FILENO;
 use libc::STDOUT_FILENO;
+ghost use mathlib.Core.Path.{_≡_};
+ghost use Rattle.replies.specs.Outcomes.{worst, lost, told};
 
 // What became of a line: it was served; or it was refused, and that was said; or what was to be
 // said could not be written.
@@ -10,28 +12,36 @@ pub enum Outcome {
     Failed,
 }
 
-// What came of the lines so far and of one more, of which neither failed.
-pub fn worse(so_far: Outcome, more: Outcome) -> Outcome {
-    match more {
-        Outcome::Served => so_far,
-        _ => more,
-    }
-}
-
-// Whether an answer could not be written.
-pub fn is_failure(outcome: Outcome) -> bool {
-    match outcome {
-        Outcome::Failed => true,
-        _ => false,
-    }
-}
-
 // The digit of what came of all lines.
-pub fn digit(outcome: Outcome) -> u8 {
+pub fn digit(outcome: Outcome) -> u8
+    ensures { λ r. ⌜ r ≡ told outcome ⌝ }
+{
     match outcome {
         Outcome::Served => b'0',
         Outcome::Refused => b'1',
         Outcome::Failed => b'3',
+    }
+}
+
+// The worse of what came of the lines so far and of one more: the one with the greater digit.
+pub fn worse(past: Outcome, more: Outcome) -> Outcome
+    ensures { λ r. ⌜ r ≡ worst past more ⌝ }
+{
+    if digit(past) < digit(more) {
+        more
+    } else {
+        past
+    }
+}
+
+// Whether an answer could not be written.
+pub fn is_failure(outcome: Outcome) -> bool
+    ensures { λ r. ⌜ r ≡ lost outcome ⌝ }
+{
+    match outcome {
+        Outcome::Served => false,
+        Outcome::Refused => false,
+        Outcome::Failed => true,
     }
 }
 
