@@ -19,7 +19,7 @@
  *
  *     number 0        the call succeeded; the value is the number of bytes written at the
  *                     start of out (mml_count: the number of orders)
- *     number 1 to 19  the call refused; the value is the place (see the list below)
+ *     another number  the call refused; the value is the place (see the list below)
  *
  * A call that succeeds leaves the rest of out as it was. A call that refuses writes nothing.
  * The inputs are never written.
@@ -68,7 +68,8 @@
  * They stand in the order of the text:
  *
  *     command  1 to 3 code pieces, then up to 8 blocks
- *     block    the field block, then its places; at most 32 places in all blocks together
+ *     block    the field block, then its places; at most 32 places in all blocks together; in a
+ *              block N no two places have the same name, all pieces equal byte for byte
  *     place    the field place, then in a block N 1 to 4 name pieces, then the value;
  *              an omitted place (in a block P only) has no value: the next field is a place or
  *              a block, or the record ends
@@ -103,9 +104,9 @@ extern "C" {
 #endif
 
 /* The version of the interface. */
-#define MML_VERSION "1.0"
+#define MML_VERSION "1.1"
 #define MML_VERSION_MAJOR 1
-#define MML_VERSION_MINOR 0
+#define MML_VERSION_MINOR 1
 
 /* The longest text that is read or printed, in bytes. */
 #define MML_TEXT_MAX 1024u
@@ -130,8 +131,8 @@ extern "C" {
 /*
  * The refusals. "Place" is counted in bytes of the text from 0 unless said otherwise.
  *
- *    mml_read answers the first of 1 to 17 that applies, mml_print 18, 2 or 17,
- *    mml_order 18, 19 or 17, mml_count 18.
+ *    mml_read answers the first of 1 to 17 and 21 that applies, 21 between 10 and 11;
+ *    mml_print 18, 2 or 17, mml_order 18, 19 or 17, mml_count 18.
  */
 enum {
     MML_DONE = 0,
@@ -197,7 +198,11 @@ enum {
     MML_RECORD = 18,
 
     /* There is no order k. Place: the number of orders. */
-    MML_NO_ORDER = 19
+    MML_NO_ORDER = 19,
+
+    /* The name stands already in its block, all pieces equal byte for byte; in another block it
+       may stand again. Place: the second name's first token. */
+    MML_NAME_TWICE = 21
 };
 
 /* The tags of a record's fields; RECORDS above says what they hold. */

@@ -8,10 +8,11 @@
 static const char version[] = MML_VERSION;
 static const unsigned sizes[] = { MML_TEXT_MAX, MML_RECORD_MAX, MML_BASES_MAX };
 
+/* No refusal has the number 20. */
 static const unsigned refusals[] = {
     MML_DONE, MML_BASE_LETTER, MML_TEXT_TOO_LONG, MML_BYTE_NOT_PERMITTED, MML_NOT_CLOSED, MML_NO_TOKEN, MML_NO_END, MML_AFTER_END,
     MML_CODE, MML_KIND, MML_NAME, MML_ALTERNATION, MML_UNIT, MML_NUMERAL_TOO_BIG, MML_GROUP, MML_LIMIT, MML_TOO_MANY,
-    MML_BUFFER_TOO_SHORT, MML_RECORD, MML_NO_ORDER
+    MML_BUFFER_TOO_SHORT, MML_RECORD, MML_NO_ORDER, 20, MML_NAME_TWICE
 };
 
 static const unsigned tags[] = {

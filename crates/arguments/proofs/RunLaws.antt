@@ -5,14 +5,16 @@ use mathlib.Core.List.{List, [], _∷_, _++_, map, append-assoc}
 use Prim.Native.Nat.{ℕ, _+_, _*_, _/_, _%_, _≤_, _<_}
 use native.Mathlib.Nat.{div-add-mod', add-zero}
 use native.Mathlib.Omega.{arith}
+use borrow.Author.Tests.{lt-leb, le-leb, leb-true}
+use lib.Dec.{leb}
 use lib.ListN.{length, getD, drop, length-append, length-drop, drop-of-length-le}
 use lib.Seq.{getD-drop, drop-drop, drop-append-seam}
 use Rattle.laws.specs.Cases.{and-l, and-r}
-use Rattle.laws.specs.Lists.{all}
+use Rattle.laws.specs.Lists.{all, all-append}
 use Rattle.rules.specs.Characters.{between}
 use Rattle.rules.specs.Units.{Unit, num, keyed, identifier, symbolic, text}
 use Rattle.rules.specs.Commands.{Element, single, range}
-use Rattle.rules.specs.Records.{Field, field, fourBytes, fieldBytes, bytesOf, unitField, elementFields}
+use Rattle.rules.specs.Records.{Field, field, fourBytes, fieldBytes, bytesOf, many, unitField, elementFields}
 use Rattle.walk.specs.Fronts.{tagOf, sizeOf}
 use Rattle.arguments.specs.Runs.{Whole, fieldSize, tagIn, RunsTo, ElementTo}
 
@@ -150,3 +152,27 @@ module _ (rec : List ℕ) (at : ℕ) {r : ℕ} (p : RunsTo 7 11 rec (at + fieldS
 
   pub element-to : ElementTo rec at r
   element-to = record { from = omega (arith, p .from); whole = p .whole; is = element-is }
+
+-- ---- tags
+
+pub name-tags : (nm : List (List ℕ)) → all (tagIn 4 4) (map (λ w. field 4 w) nm) ≡ true
+name-tags [] = refl
+name-tags (w ∷ nm) = name-tags nm
+
+wider : (fs : List Field) → all (tagIn 7 11) fs ≡ true → all (tagIn 5 11) fs ≡ true
+wider [] h = refl
+wider (field t w ∷ fs) h =
+    let k : between 7 11 t ≡ true = and-l (between 7 11 t) (all (tagIn 7 11) fs) h in
+    let low : 7 ≤ t = leb-true 7 t (and-l (leb 7 t) (leb t 11) k) in
+    rw (le-leb 5 t (omega arith), and-r (leb 7 t) (leb t 11) k) (wider fs (and-r (between 7 11 t) (all (tagIn 7 11) fs) h))
+
+pub element-tags : (es : List Element) → all (tagIn 5 11) (many elementFields es) ≡ true
+element-tags [] = refl
+element-tags (single l u ∷ es) =
+    all-append (tagIn 5 11) (map unitField (l ++ (u ∷ []))) (many elementFields es) (wider (map unitField (l ++ (u ∷ []))) (unit-tags (l ++ (u ∷ [])))) (element-tags es)
+element-tags (range l r lo up inc ∷ es) =
+    all-append (tagIn 5 11) (map unitField (l ++ (num r 0 lo ∷ []))) (many elementFields es) (wider (map unitField (l ++ (num r 0 lo ∷ []))) (unit-tags (l ++ (num r 0 lo ∷ [])))) (element-tags es)
+
+-- a tag below 4 is none of a name's, an element's or a unit's
+pub low-tag : (low high t : ℕ) → t < low → between low high t ≡ false
+low-tag low high t h = rw (lt-leb low t h)

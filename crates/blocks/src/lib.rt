@@ -1,4 +1,5 @@
 // The command above its places: 6, 7, 8, block by block (15), and the running product of the orders (16).
+use marks;
 use parts;
 use pieces;
 use places;
@@ -7,6 +8,7 @@ use table;
 use table::Verdict;
 ghost use Prim.Native.Nat.{_≤_, _<_};
 ghost use mathlib.Core.Path.{_≡_};
+ghost use mathlib.Core.List.{[]};
 ghost use lib.ListN.{length};
 ghost use Rattle.rules.specs.Commands.{split, cutAt};
 ghost use Rattle.rules.specs.Reading.{readPlaces, readBlock, readBlocks, readSegs, readCut};
@@ -117,23 +119,32 @@ fn read_places(
     start: Tally,
 ) -> Tallied
     ensures { λ r. ⌜ r ≡ placesRead start
-        (readPlaces named (basesIn (now (bases .entry))) (start .places) (split comma end (tokensIn (now (contents .entry)) (now (toks .entry))))) ⌝ }
+        (readPlaces named (basesIn (now (bases .entry))) (start .places) [] (split comma end (tokensIn (now (contents .entry)) (now (toks .entry))))) ⌝ }
 {
     let mut i: usize = 0;
     let mut t = start;
+    let mut marks = marks::none();
     while i <= toks.len() {
         let k = parts::find(toks, i, table::COMMA);
         match places::place(
+            &toks[..i],
             &toks[i..k],
             contents,
             bases,
             named,
             t.places,
+            marks,
             parts::place_at(toks, k, end),
         ) {
             PlaceRead::Refused { no, place } => return Tallied::Refused { no, place },
-            PlaceRead::Fine { args, at, bytes } => {
+            PlaceRead::Fine {
+                args,
+                at,
+                bytes,
+                key,
+            } => {
                 t = count(t, args, at, bytes);
+                marks = marks::add_if(named, marks, key);
                 i = k + 1;
             }
         }

@@ -11,8 +11,8 @@ use lib.Dec.{leb, ltb, eqb}
 use lib.ListN.{length, getD, length-append, length-map}
 use borrow.Author.Tests.{eqb-true, leb-true, le-leb, lt-ltb, ltb-true, not-true}
 use Rattle.laws.specs.Cases.{byBool, and-l, and-r, byOption, none≢some, some-inj}
-use Rattle.laws.specs.Lists.{all, all-append, isNil}
-use Rattle.rules.specs.Commands.{Element, Place, place, Block, block, Command, command, placeCount, mult, isIndexNumber, isSep, Seg, seg, first, consHead, split, Cut, cut, uncut, consCut, cutAt, piece, pieces, isPiece, isCut, placeBase, placesOf, allPlaces}
+use Rattle.laws.specs.Lists.{all, any, all-append, isNil}
+use Rattle.rules.specs.Commands.{Name, Element, Place, place, Block, block, Command, command, placeCount, mult, isIndexNumber, isSep, Seg, seg, first, consHead, split, Cut, cut, uncut, consCut, cutAt, piece, pieces, isPiece, isCut, placeBase, placeName, sameName, placesOf, allPlaces}
 use Rattle.rules.specs.Groups.{isJoiner, readValue}
 use Rattle.rules.specs.Reading.{Placed, placed, unplaced, readPosition, readNamed, readOfKind, readPlace, readPlaces, kindOf, PlacedBlock, placedBlock, readBlock, blockSize, readBlocks, running, runningBlocks, blockOf, readSegs, readCut, readLetters}
 use Rattle.rules.specs.Records.{basesOf}
@@ -20,11 +20,13 @@ use Rattle.rules.specs.Refusals.{Res, ok, bad, _>>=_, mapR, guard}
 use Rattle.rules.specs.Tokens.{Sep, dash, comma, colon, equals, semi, Lex, word, str, sep, Token, at, sepCode, posOf, lexOf}
 use Rattle.rules.specs.Units.{rD, Base, plain, letter, isIdentifier, baseOf}
 use Rattle.rules.proofs.CommandBack.{pastL, noSep, split-none, split-at, cut-none, cut-at, Along, along-split, PlaceBack, PlacesBack, BlockBack, runningB-ok}
-use Rattle.rules.proofs.ReadSound.{piece-is, runningB-is}
+use Rattle.rules.proofs.ReadSound.{piece-is, runningB-is, places-fresh}
+use Rattle.rules.specs.WellFormed.{namesDiffer}
+use Rattle.rules.proofs.Names.{name-refl, name-is, freeOf, fresh, fresh-of, fresh-is, fresh-none}
 use Rattle.rules.proofs.ResultLaws.{ok-inj, ok≢bad, bind-ok, map-ok, guard-ok}
 use Rattle.rules.proofs.UnitBack.{base-back}
 use Rattle.rules.proofs.ValueBack.{hd, tl, toks}
-use Rattle.grammar.specs.Grammar.{UnitOf, prefixed, bare, asIdentifier, asSymbolic, string, Value, Rest, done, piece as piece′, Pieces, pieces as pieces′, PlaceOf, omitted, position, named, Places, last, next, Blocks, Under, given, past, Derives, derives}
+use Rattle.grammar.specs.Grammar.{UnitOf, prefixed, bare, asIdentifier, asSymbolic, string, Value, Rest, done, piece as piece′, Pieces, pieces as pieces′, PlaceOf, omitted, position, named, Places, last, next, Unlike, none as alone, other, NamesDiffer, more, Blocks, Under, given, past, Derives, derives}
 use Rattle.grammar.proofs.UnitExact.{letter-is}
 use Rattle.grammar.proofs.ValueExact.{Linked, nil, cons, sep-same, value-sound, value-complete, ValueLinks, value-links}
 
@@ -116,49 +118,82 @@ split-is s e (t ∷ ts) =
     let g : (glue s (consHead t (split s e ts)) ≡ lexOf t ∷ glue s (split s e ts)) × (isNil (consHead t (split s e ts)) ≡ false) = glue-head s t (split s e ts) (ih .1) in
     rw (y, split) (g .0 ∙ ap (λ b. lexOf t ∷ b) (ih .0), g .1))
 
+-- ---- names
+
+unlike-is : (nm : Name) (ms : List Name) → not (any (sameName nm) ms) ≡ true → Unlike nm ms
+unlike-is nm [] h = alone
+unlike-is nm (m ∷ ms) h =
+    byBool (sameName nm m)
+    (λ y. absurd (false≢true (rw y at h)))
+    (λ y. other (λ e. false≢true (sym y ∙ subst (λ z. sameName nm z ≡ true) e (name-refl nm))) (unlike-is nm ms (rw y at h)))
+
+unlike-test : {nm : Name} {ms : List Name} → Unlike nm ms → not (any (sameName nm) ms) ≡ true
+unlike-test alone = refl
+unlike-test {nm = nm} (other {m = m} h u) = byBool (sameName nm m) (λ y. absurd (h (name-is nm m y))) (λ y. rw y (unlike-test u))
+
+differ-is : (xs : List Name) → namesDiffer xs ≡ true → NamesDiffer xs
+differ-is [] h = alone
+differ-is (x ∷ xs) h =
+    let A : Bool = not (any (sameName x) xs) in
+    more (unlike-is x xs (and-l A (namesDiffer xs) h)) (differ-is xs (and-r A (namesDiffer xs) h))
+
+differ-test : {xs : List Name} → NamesDiffer xs → namesDiffer xs ≡ true
+differ-test alone = refl
+differ-test (more u d) = rw (unlike-test u) (differ-test d)
+
+once-is : (k : Bool) (xs : List Name) → fresh k [] xs ≡ true → k ≡ true → NamesDiffer xs
+once-is true xs h e = differ-is xs ((fresh-is [] xs h) .0)
+once-is false xs h e = absurd (false≢true e)
+
+once-test : (k : Bool) (xs : List Name) → (k ≡ true → NamesDiffer xs) → fresh k [] xs ≡ true
+once-test true xs f = fresh-of [] xs refl (differ-test (f refl))
+once-test false xs f = fresh-none [] xs
+
 -- ---- places
 
-named-sound : (b : Base) (c : Cut) (e : ℕ) (x : Placed) (xs : List Lex) → CutOf equals xs c → readNamed b c e ≡ ok x → PlaceOf true xs (unplaced x) × (b ≡ placeBase (unplaced x))
-named-sound b uncut e x xs h k = ok≢bad k
-named-sound b (cut nm q ts) e x xs h k =
+named-sound : (b : Base) (ns : List Name) (c : Cut) (e : ℕ) (x : Placed) (xs : List Lex) → CutOf equals xs c → readNamed b ns c e ≡ ok x → PlaceOf true xs (unplaced x) × (b ≡ placeBase (unplaced x))
+named-sound b ns uncut e x xs h k = ok≢bad k
+named-sound b ns (cut nm q ts) e x xs h k =
     bind-ok (pieces 10 isIdentifier isPiece 3 true nm q) _ x k
-    (λ ws a k′.
+    (λ ws a k0.
+    guard-ok (not (any (sameName ws) ns)) 21 (first nm q) _ x k0
+    (λ _ k′.
     map-ok (λ v. placed (first ts e) (place b ws v)) (readValue b ts e) x k′
-    (λ v c r. rw (h, ← r) (named (pieces-sound 10 q isPiece 3 nm ws a) (value-sound b ts e v c), refl)))
+    (λ v c r. rw (h, ← r) (named (pieces-sound 10 q isPiece 3 nm ws a) (value-sound b ts e v c), refl))))
 
 position-sound : (b : Base) (ts : List Token) (e : ℕ) (x : Placed) → readPosition b ts e ≡ ok x → PlaceOf false (map lexOf ts) (unplaced x) × (b ≡ placeBase (unplaced x))
 position-sound b [] e x k = rw (← (ok-inj k)) (omitted, refl)
 position-sound b (t ∷ ts) e x k =
     map-ok (λ v. placed (posOf t) (place b [] v)) (readValue b (t ∷ ts) e) x k (λ v c r. rw (← r) (position (value-sound b (t ∷ ts) e v c), refl))
 
-place1-sound : (k : Bool) (b : Base) (ts : List Token) (e : ℕ) (x : Placed) → readOfKind k b ts e ≡ ok x → PlaceOf k (map lexOf ts) (unplaced x) × (b ≡ placeBase (unplaced x))
-place1-sound true b ts e x q = named-sound b (cutAt equals ts) e x (map lexOf ts) (cut-is equals ts) q
-place1-sound false b ts e x q = position-sound b ts e x q
+place1-sound : (k : Bool) (b : Base) (ns : List Name) (ts : List Token) (e : ℕ) (x : Placed) → readOfKind k b ns ts e ≡ ok x → PlaceOf k (map lexOf ts) (unplaced x) × (b ≡ placeBase (unplaced x))
+place1-sound true b ns ts e x q = named-sound b ns (cutAt equals ts) e x (map lexOf ts) (cut-is equals ts) q
+place1-sound false b ns ts e x q = position-sound b ts e x q
 
-place-sound : (k : Bool) (bs : List Base) (n : ℕ) (ts : List Token) (e : ℕ) (x : Placed) → readPlace k bs n (seg ts e) ≡ ok x
+place-sound : (k : Bool) (bs : List Base) (n : ℕ) (ns : List Name) (ts : List Token) (e : ℕ) (x : Placed) → readPlace k bs n ns (seg ts e) ≡ ok x
     → (PlaceOf k (map lexOf ts) (unplaced x) × (getD bs n (plain rD) ≡ placeBase (unplaced x))) × (n < 32)
-place-sound k bs n ts e x q =
+place-sound k bs n ns ts e x q =
     guard-ok (ltb n 32) 15 (first ts e) _ x q
-    (λ y q′. guard-ok (Bool·beq k (isCut (cutAt equals ts))) 9 (first ts e) _ x q′ (λ z q″. (place1-sound k (getD bs n (plain rD)) ts e x q″, ltb-true n 32 y)))
+    (λ y q′. guard-ok (Bool·beq k (isCut (cutAt equals ts))) 9 (first ts e) _ x q′ (λ z q″. (place1-sound k (getD bs n (plain rD)) ns ts e x q″, ltb-true n 32 y)))
 
 record PlacesAre (k : Bool) (bs : List Base) (n : ℕ) (xs : List Lex) (ps : List Placed) : Type 0 where
   are : Places k xs (map unplaced ps)
   under : Along bs n (map placeBase (map unplaced ps))
   fit : n + length ps ≤ 32
 
-places-sound : (k : Bool) (bs : List Base) (n : ℕ) (s : Seg) (ss : List Seg) (ps : List Placed) → readPlaces k bs n (s ∷ ss) ≡ ok ps → PlacesAre k bs n (glue comma (s ∷ ss)) ps
-places-sound k bs n (seg ts e) [] ps q =
-    bind-ok (readPlace k bs n (seg ts e)) (λ x. mapR (λ xs. x ∷ xs) (readPlaces k bs (suc n) [])) ps q
+places-sound : (k : Bool) (bs : List Base) (n : ℕ) (ns : List Name) (s : Seg) (ss : List Seg) (ps : List Placed) → readPlaces k bs n ns (s ∷ ss) ≡ ok ps → PlacesAre k bs n (glue comma (s ∷ ss)) ps
+places-sound k bs n ns (seg ts e) [] ps q =
+    bind-ok (readPlace k bs n ns (seg ts e)) _ ps q
     (λ x a q′.
-    let p : (PlaceOf k (map lexOf ts) (unplaced x) × (getD bs n (plain rD) ≡ placeBase (unplaced x))) × (n < 32) = place-sound k bs n ts e x a in
+    let p : (PlaceOf k (map lexOf ts) (unplaced x) × (getD bs n (plain rD) ≡ placeBase (unplaced x))) × (n < 32) = place-sound k bs n ns ts e x a in
     rw (← (ok-inj q′), append-nil (map lexOf ts)) (record { are = last (p .0 .0); under = (p .0 .1, tt); fit = omega (arith, p .1) }))
-places-sound k bs n (seg ts e) (s′ ∷ ss) ps q =
-    bind-ok (readPlace k bs n (seg ts e)) (λ x. mapR (λ xs. x ∷ xs) (readPlaces k bs (suc n) (s′ ∷ ss))) ps q
+places-sound k bs n ns (seg ts e) (s′ ∷ ss) ps q =
+    bind-ok (readPlace k bs n ns (seg ts e)) _ ps q
     (λ x a q′.
-    map-ok (λ xs. x ∷ xs) (readPlaces k bs (suc n) (s′ ∷ ss)) ps q′
+    map-ok (λ xs. x ∷ xs) (readPlaces k bs (suc n) (placeName (unplaced x) ∷ ns) (s′ ∷ ss)) ps q′
     (λ ps′ a′ r.
-    let p : (PlaceOf k (map lexOf ts) (unplaced x) × (getD bs n (plain rD) ≡ placeBase (unplaced x))) × (n < 32) = place-sound k bs n ts e x a in
-    let ih : PlacesAre k bs (suc n) (glue comma (s′ ∷ ss)) ps′ = places-sound k bs (suc n) s′ ss ps′ a′ in
+    let p : (PlaceOf k (map lexOf ts) (unplaced x) × (getD bs n (plain rD) ≡ placeBase (unplaced x))) × (n < 32) = place-sound k bs n ns ts e x a in
+    let ih : PlacesAre k bs (suc n) (glue comma (s′ ∷ ss)) ps′ = places-sound k bs (suc n) (placeName (unplaced x) ∷ ns) s′ ss ps′ a′ in
     rw (← r, glue-sep comma (s′ ∷ ss) refl)
     (record { are = next (p .0 .0) (ih .are); under = (p .0 .1, ih .under); fit = omega (arith, ih .fit) })))
 
@@ -175,6 +210,7 @@ record BlockIs (bs : List Base) (n : ℕ) (xs : List Lex) (x : PlacedBlock) : Ty
   ps : List Place
   is : blockOf x ≡ block k ps
   are : Places k xs ps
+  once : k ≡ true → NamesDiffer (map placeName ps)
   under : Along bs n (map placeBase ps)
   many : blockSize x ≡ length ps
   fit : n + length ps ≤ 32
@@ -182,15 +218,16 @@ record BlockIs (bs : List Base) (n : ℕ) (xs : List Lex) (x : PlacedBlock) : Ty
 block-sound : (bs : List Base) (n : ℕ) (ss : List Seg) (x : PlacedBlock) → isNil ss ≡ false → readBlock bs n ss ≡ ok x → BlockIs bs n (glue comma ss) x
 block-sound bs n [] x h q = absurd (false≢true (sym h))
 block-sound bs n (s ∷ ss) x h q =
-    map-ok (λ ps. placedBlock (kindOf (s ∷ ss)) ps) (readPlaces (kindOf (s ∷ ss)) bs n (s ∷ ss)) x q
+    map-ok (λ ps. placedBlock (kindOf (s ∷ ss)) ps) (readPlaces (kindOf (s ∷ ss)) bs n [] (s ∷ ss)) x q
     (λ ps a r.
-    let p : PlacesAre (kindOf (s ∷ ss)) bs n (glue comma (s ∷ ss)) ps = places-sound (kindOf (s ∷ ss)) bs n s ss ps a in
+    let p : PlacesAre (kindOf (s ∷ ss)) bs n (glue comma (s ∷ ss)) ps = places-sound (kindOf (s ∷ ss)) bs n [] s ss ps a in
     rw (← r)
     (record {
       k = kindOf (s ∷ ss);
       ps = map unplaced ps;
       is = refl;
       are = p .are;
+      once = once-is (kindOf (s ∷ ss)) (map placeName (map unplaced ps)) (places-fresh (kindOf (s ∷ ss)) bs n [] (s ∷ ss) ps a);
       under = p .under;
       many = sym (length-map ps unplaced);
       fit = rw length-map (p .fit);
@@ -219,7 +256,7 @@ blocks-sound bs m n q (seg ts e ∷ ss) xs k =
     subst (λ z. Along bs (n + z) (basesOf (map blockOf xs′))) (b .many ∙ sym (length-map (b .ps) placeBase)) (ih .under) in
     rw (← r, b .is)
     (record {
-      are = next (b .are) (ih .are);
+      are = next (b .are) (b .once) (ih .are);
       under = along-append bs n (map placeBase (b .ps)) (basesOf (map blockOf xs′)) (b .under) u;
       few = λ z. omega (arith, ih .few lt);
       fit = λ z. omega (arith, ih .fit (omega (arith, b .fit, b .many)), b .many, length-append (b .ps) (allPlaces (map blockOf xs′)));
@@ -338,7 +375,7 @@ module _ (s : Sep) (hj : isJoiner s ≡ false) where
 
 blocks-free : {xs : List Lex} {bl : List Block} → Blocks xs bl → all (noSep semi) xs ≡ true
 blocks-free done = refl
-blocks-free (next {xs = xs} {ys = ys} p m) = all-append (noSep semi) xs ys (places-free semi refl refl refl p) (blocks-free m)
+blocks-free (next {xs = xs} {ys = ys} p o m) = all-append (noSep semi) xs ys (places-free semi refl refl refl p) (blocks-free m)
 
 -- ---- pieces
 
@@ -353,32 +390,34 @@ module _ (nr : ℕ) (g : List ℕ → Bool) (e : ℕ) where
 
 -- ---- places
 
-place-complete : (k : Bool) (bs : List Base) (n : ℕ) (xs : List Lex) (p : Place) (ps : List ℕ) (e : ℕ) → PlaceOf k xs p → n < 32 → getD bs n (plain rD) ≡ placeBase p
-    → PlaceBack k bs n (seg (toks ps xs) e) p
-place-complete k bs n xs p ps e omitted hn hb = record { spot = e; got = rw (lt-ltb n 32 hn, hb) }
-place-complete k bs n xs p ps e (position {b = b} {v = v} d) hn hb =
+place-complete : (k : Bool) (bs : List Base) (n : ℕ) (ns : List Name) (xs : List Lex) (p : Place) (ps : List ℕ) (e : ℕ) → PlaceOf k xs p → n < 32 → getD bs n (plain rD) ≡ placeBase p → freeOf k ns (placeName p) ≡ true
+    → PlaceBack k bs n ns (seg (toks ps xs) e) p
+place-complete k bs n ns xs p ps e omitted hn hb hf = record { spot = e; got = rw (lt-ltb n 32 hn, hb) }
+place-complete k bs n ns xs p ps e (position {b = b} {v = v} d) hn hb hf =
     let o : ValueLinks b xs = value-links d in
     let c : cutAt equals (toks ps xs) ≡ uncut = cut-none equals 0 xs ps (value-free equals refl d) in
     let r : readValue b (toks ps xs) e ≡ ok v = value-complete b xs v ps e d in
     record { spot = hd ps; got = rw (lt-ltb n 32 hn, hb, c) (subst (λ z. readPosition b (toks ps z) e ≡ ok (placed (hd ps) (place b [] v))) (sym (o .is)) (rw (subst (λ z. readValue b (toks ps z) e ≡ ok v) (o .is) r))) }
-place-complete k bs n xs p ps e (named {b = b} {ns = ns} {nm = nm} {xs = ys} {v = v} w d) hn hb =
+place-complete k bs n nb xs p ps e (named {b = b} {ns = ns} {nm = nm} {xs = ys} {v = v} w d) hn hb hf =
     let ts : List ℕ = tl (pastL ns ps) in
     let c : cutAt equals (toks ps (ns ++ (sep equals ∷ ys))) ≡ cut (toks ps ns) (hd (pastL ns ps)) (toks ts ys) = cut-at equals 0 ns ys ps (pieces-free equals refl w) in
     record {
       spot = first (toks ts ys) e;
-      got = rw (lt-ltb n 32 hn, hb, c) (rw (pieces-complete 10 isPiece (hd (pastL ns ps)) 3 ps w, value-complete b ys v ts e d));
+      got = rw (lt-ltb n 32 hn, hb, c) (rw (pieces-complete 10 isPiece (hd (pastL ns ps)) 3 ps w, hf, value-complete b ys v ts e d));
     }
 
-places-complete : {xs : List Lex} {pl : List Place} (k : Bool) (bs : List Base) (n : ℕ) (ps : List ℕ) (e : ℕ) → Places k xs pl → n + length pl ≤ 32 → Along bs n (map placeBase pl)
-    → PlacesBack k bs n (split comma e (toks ps xs)) pl
-places-complete k bs n ps e (last {xs = xs} {p = p} d) hn ha =
-    let o : PlaceBack k bs n (seg (toks ps xs) e) p = place-complete k bs n xs p ps e d (omega arith) (ha .0) in
+places-complete : {xs : List Lex} {pl : List Place} (k : Bool) (bs : List Base) (n : ℕ) (ns : List Name) (ps : List ℕ) (e : ℕ) → Places k xs pl → n + length pl ≤ 32 → Along bs n (map placeBase pl) → fresh k ns (map placeName pl) ≡ true
+    → PlacesBack k bs n ns (split comma e (toks ps xs)) pl
+places-complete k bs n ns ps e (last {xs = xs} {p = p} d) hn ha hf =
+    let o : PlaceBack k bs n ns (seg (toks ps xs) e) p = place-complete k bs n ns xs p ps e d (omega arith) (ha .0) (and-l (freeOf k ns (placeName p)) true hf) in
     record { xs = placed (o .spot) p ∷ []; got = rw (split-none comma e xs ps (place-free comma refl refl d), o .got); are = refl }
-places-complete k bs n ps e (next {xs = xs} {ys = ys} {p = p} {ps = pl} d m) hn ha =
+places-complete k bs n ns ps e (next {xs = xs} {ys = ys} {p = p} {ps = pl} d m) hn ha hf =
     let e′ : ℕ = hd (pastL xs ps) in
     let ps′ : List ℕ = tl (pastL xs ps) in
-    let o : PlaceBack k bs n (seg (toks ps xs) e′) p = place-complete k bs n xs p ps e′ d (omega arith) (ha .0) in
-    let ih : PlacesBack k bs (suc n) (split comma e (toks ps′ ys)) pl = places-complete k bs (suc n) ps′ e m (omega arith) (ha .1) in
+    let o : PlaceBack k bs n ns (seg (toks ps xs) e′) p = place-complete k bs n ns xs p ps e′ d (omega arith) (ha .0)
+    (and-l (freeOf k ns (placeName p)) (fresh k (placeName p ∷ ns) (map placeName pl)) hf) in
+    let ih : PlacesBack k bs (suc n) (placeName p ∷ ns) (split comma e (toks ps′ ys)) pl = places-complete k bs (suc n) (placeName p ∷ ns) ps′ e m (omega arith) (ha .1)
+    (and-r (freeOf k ns (placeName p)) (fresh k (placeName p ∷ ns) (map placeName pl)) hf) in
     record { xs = placed (o .spot) p ∷ ih .xs; got = rw (split-at comma e xs ys ps (place-free comma refl refl d), o .got, ih .got); are = ap (λ l. p ∷ l) (ih .are) }
 
 place-kind : {k : Bool} {xs : List Lex} {p : Place} (ps : List ℕ) → PlaceOf k xs p → isCut (cutAt equals (toks ps xs)) ≡ k
@@ -392,10 +431,10 @@ places-kind ps e (next {xs = xs} {ys = ys} d m) = rw (split-at comma e xs ys ps 
 
 -- ---- blocks
 
-block-complete : (k : Bool) (bs : List Base) (n : ℕ) (xs : List Lex) (pl : List Place) (ps : List ℕ) (e : ℕ) → Places k xs pl → n + length pl ≤ 32 → Along bs n (map placeBase pl)
+block-complete : (k : Bool) (bs : List Base) (n : ℕ) (xs : List Lex) (pl : List Place) (ps : List ℕ) (e : ℕ) → Places k xs pl → (k ≡ true → NamesDiffer (map placeName pl)) → n + length pl ≤ 32 → Along bs n (map placeBase pl)
     → BlockBack bs n (split comma e (toks ps xs)) (block k pl)
-block-complete k bs n xs pl ps e d hn ha =
-    let o : PlacesBack k bs n (split comma e (toks ps xs)) pl = places-complete k bs n ps e d hn ha in
+block-complete k bs n xs pl ps e d once hn ha =
+    let o : PlacesBack k bs n [] (split comma e (toks ps xs)) pl = places-complete k bs n [] ps e d hn ha (once-test k (map placeName pl) once) in
     record {
       x = placedBlock k (o .xs);
       got = rw (places-kind ps e d, o .got);
@@ -415,13 +454,13 @@ blocks-complete : {ys : List Lex} {bl : List Block} (bs : List Base) (m n : ℕ)
     → m + length bl ≤ 8 → n + length (allPlaces bl) ≤ 32 → Along bs n (basesOf bl) → BlocksOf bs m n zs ys ps e bl
 blocks-complete bs m n zs ps e done hz hm hn ha =
     record { e1 = e; ss = []; splits = rw (append-nil zs) (split-none colon e zs ps hz); xs = []; got = λ q. refl; are = refl }
-blocks-complete bs m n zs ps e (next {k = k} {xs = xs} {ys = ys} {ps = pl} {bs = bl} d r) hz hm hn ha =
+blocks-complete bs m n zs ps e (next {k = k} {xs = xs} {ys = ys} {ps = pl} {bs = bl} d once r) hz hm hn ha =
     let ps′ : List ℕ = tl (pastL zs ps) in
     let la : length (pl ++ allPlaces bl) ≡ length pl + length (allPlaces bl) = length-append pl (allPlaces bl) in
     let hs : Along bs n (map placeBase pl) × Along bs (n + length (map placeBase pl)) (basesOf bl) = along-split bs n (map placeBase pl) (basesOf bl) ha in
     let ih : BlocksOf bs (suc m) (n + length pl) xs ys ps′ e bl =
     blocks-complete bs (suc m) (n + length pl) xs ps′ e r (places-free colon refl refl refl d) (omega arith) (omega arith) (rw length-map at (hs .1)) in
-    let o : BlockBack bs n (split comma (ih .e1) (toks ps′ xs)) (block k pl) = block-complete k bs n xs pl ps′ (ih .e1) d (omega arith) (hs .0) in
+    let o : BlockBack bs n (split comma (ih .e1) (toks ps′ xs)) (block k pl) = block-complete k bs n xs pl ps′ (ih .e1) d once (omega arith) (hs .0) in
     record {
       e1 = hd (pastL zs ps);
       ss = seg (toks ps′ xs) (ih .e1) ∷ ih .ss;

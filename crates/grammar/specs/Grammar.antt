@@ -12,7 +12,7 @@ use Rattle.rules.specs.Refusals.{mostLetters, mostText, mostString, moreOfCode,
 use Rattle.rules.specs.Characters.{byte, isEffector, isPermitted, isWordChar}
 use Rattle.rules.specs.Tokens.{Sep, ampamp-, ampamp, amp-, amp, plusplus, dash, comma, colon, equals, semi, Lex, word, str, sep, wordMost}
 use Rattle.rules.specs.Units.{Radix, rD, Base, plain, keys, size, letter, Unit, num, keyed, identifier, symbolic, text, digitValue, isDigitOf, isKey, runOf, isIdentifier, isSymbolicName, allowed}
-use Rattle.rules.specs.Commands.{Element, single, range, Place, place, Block, block, Command, command, placeBase, allPlaces, valueCount, placeCount, mult, isPiece}
+use Rattle.rules.specs.Commands.{Element, single, range, Place, place, Block, block, Command, command, placeBase, placeName, allPlaces, valueCount, placeCount, mult, isPiece}
 use Rattle.rules.specs.Printing.{sepText}
 
 abbrev pub Text : Type 0
@@ -195,11 +195,20 @@ pub data Places (k : Bool) : List Lex → List Place → Type 0 where
   last : {xs : List Lex} {p : Place} → PlaceOf k xs p → Places k xs (p ∷ [])
   next : {xs ys : List Lex} {p : Place} {ps : List Place} → PlaceOf k xs p → Places k ys ps → Places k (xs ++ (sep comma ∷ ys)) (p ∷ ps)
 
+-- M-102: "a name that already stands in its block, all pieces equal byte for byte. In another block it is fine.": the name is none of these
+pub data Unlike (nm : List Text) : List (List Text) → Type 0 where
+  none : Unlike nm []
+  other : {m : List Text} {ms : List (List Text)} → (nm ≡ m → ⊥) → Unlike nm ms → Unlike nm (m ∷ ms)
+
+pub data NamesDiffer : List (List Text) → Type 0 where
+  none : NamesDiffer []
+  more : {nm : List Text} {ms : List (List Text)} → Unlike nm ms → NamesDiffer ms → NamesDiffer (nm ∷ ms)
+
 -- "Then each `:` starts a block"
 pub data Blocks : List Lex → List Block → Type 0 where
   done : Blocks [] []
   next : {k : Bool} {xs ys : List Lex} {ps : List Place} {bs : List Block}
-      → Places k xs ps → Blocks ys bs → Blocks (sep colon ∷ (xs ++ ys)) (block k ps ∷ bs)
+      → Places k xs ps → (k ≡ true → NamesDiffer (map placeName ps)) → Blocks ys bs → Blocks (sep colon ∷ (xs ++ ys)) (block k ps ∷ bs)
 
 -- "The n-th letter is the default base of the n-th place, counted through all blocks, omitted places included. Places past the list's end have D."
 pub data Under : List Base → List Base → Type 0 where

@@ -1,5 +1,5 @@
 pub mod HeadLaws
-pub mod SameLaws
+pub mod ShortLaws
 pub mod SplitLaws
 pub mod FitLaws
 pub mod SoundLaws

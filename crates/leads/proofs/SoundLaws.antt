@@ -17,6 +17,7 @@ use Rattle.rules.specs.Records.{Field, field, unitField, elementFields, many, p
 use Rattle.rules.specs.WellFormed.{isNone, isDecimal, okFraction, wfUnit, wfElement, wfValue, short, wfPieces, wfPlace, wfBlock, wellFormed}
 use Rattle.rules.proofs.CommandBack.{c-code, c-blocks}
 use Rattle.rules.proofs.DecodeEncode.{place-value}
+use Rattle.rules.proofs.Names.{block-places}
 use Rattle.rules.proofs.ValueBack.{ok-lead, ok-last, v-all}
 use Rattle.leads.specs.Fields.{tagIn, contentIn, startsUnit, fieldFits, followed, sound}
 
@@ -118,7 +119,7 @@ blocks-sound : (bs : List Block) → all wfBlock bs ≡ true → sound (many blo
 unfolding fieldFits
 blocks-sound [] h = refl
 blocks-sound (block kind ps ∷ bs) h =
-    places-sound kind ps (many blockFields bs) (and-r (not (isNil ps)) (all (wfPlace kind) ps) (and-l (wfBlock (block kind ps)) (all wfBlock bs) h))
+    places-sound kind ps (many blockFields bs) (block-places kind ps (and-l (wfBlock (block kind ps)) (all wfBlock bs) h))
     (blocks-sound bs (and-r (wfBlock (block kind ps)) (all wfBlock bs) h))
 
 pub sound-fields : (c : Command) → wellFormed c ≡ true → sound (fieldsOf c) ≡ true

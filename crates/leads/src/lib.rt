@@ -4,7 +4,6 @@ ghost use mathlib.Core.Bool.{true, false};
 ghost use Prim.Native.Nat.{_≤_, _<_};
 ghost use lib.Dec.{leb, eqb};
 ghost use lib.ListN.{length, getD};
-ghost use Rattle.laws.specs.Lists.{eqL};
 ghost use Rattle.leads.specs.Fields.{shortForm, nextAt, lastAt, upperIn, incrementIn, Stands, Units, RangeSized};
 
 // The tag of a range element, and the first tag of a unit.
@@ -46,23 +45,6 @@ pub fn last_unit(rec: &[u8], from: usize) -> usize
     }
 }
 
-// Whether two parts have the same bytes.
-fn same(a: &[u8], b: &[u8]) -> bool
-    ensures { λ r. ⌜ r ≡ eqL (now (a .entry)) (now (b .entry)) ⌝ }
-{
-    if a.len() != b.len() {
-        return false;
-    }
-    let mut i = 0;
-    while i < a.len() {
-        if a[i] != b[i] {
-            return false;
-        }
-        i += 1;
-    }
-    true
-}
-
 // Whether an element is printed in the short form: behind a field of tag `last`, the bytes of both elements' leading units lent.
 pub fn short_form(last: u8, before: &[u8], lead: &[u8]) -> bool
     ensures { λ r. ⌜ r ≡ shortForm last (now (before .entry)) (now (lead .entry)) ⌝ }
@@ -73,7 +55,7 @@ pub fn short_form(last: u8, before: &[u8], lead: &[u8]) -> bool
     if lead.len() == 0 {
         return false;
     }
-    same(before, lead)
+    marks::same(before, lead)
 }
 
 // The upper end of a range; 0 for a single element.

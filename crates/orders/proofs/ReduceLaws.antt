@@ -1,7 +1,7 @@
 -- A record is its parts, and they are reduced one stretch after the other; with order k's positions they become the parts of order k, since both go
 -- from the last place back.
 use mathlib.Core.Path.{_≡_, refl, sym, ap, ap₂, _∙_, subst}
-use mathlib.Core.Bool.{Bool, true, cond, not}
+use mathlib.Core.Bool.{Bool, true, cond}
 use mathlib.Core.List.{List, [], _∷_, _++_, map, map-append, append-assoc}
 use Prim.Native.Nat.{ℕ, _+_, _-_, _≤_, _<_}
 use native.Mathlib.Nat.{mod-lt}
@@ -11,7 +11,7 @@ use lib.Dec.{leb}
 use lib.ListN.{length, getD, take, drop, length-append, length-drop, length-map, drop-of-length-le}
 use lib.Seq.{take-all}
 use Rattle.laws.specs.Cases.{and-l, and-r}
-use Rattle.laws.specs.Lists.{all, isNil, all-append, next}
+use Rattle.laws.specs.Lists.{all, all-append, next}
 use Rattle.laws.specs.Over.{over, part, back as given, back-over, length-over}
 use Rattle.rules.specs.Characters.{between, byte}
 use Rattle.rules.specs.Units.{Base}
@@ -24,8 +24,10 @@ use Rattle.rules.proofs.CommandBack.{c-blocks}
 use Rattle.rules.proofs.DecodeEncode.{place-value}
 use Rattle.rules.proofs.DirectIsList.{place-pos}
 use Rattle.rules.proofs.EncodeDecode.{IsRecord, record-is}
+use Rattle.rules.proofs.Names.{block-places}
 use Rattle.rules.proofs.ValueBack.{and-both}
 use Rattle.walk.specs.Fronts.{tagOf}
+use Rattle.walk.proofs.SeveralLaws.{many-append}
 use Rattle.arguments.specs.Runs.{Whole, tagIn}
 use Rattle.arguments.proofs.TermLaws.{bytes-append}
 use Rattle.orders.specs.Reduced.{positionAt, positionsOf, Part, kept, placed, partFields, partsBytes, blockParts, partsOf, reducedPlace, reduce, reduced, Below, placesIn, Fit}
@@ -35,10 +37,6 @@ use Rattle.orders.proofs.PositionLaws.{behind, leftOf, behind-long}
 use Rattle.orders.proofs.StretchLaws.{stretch-short}
 
 -- ---- the parts' fields are the record's
-
-many-append : {A : Type 0} (g : A → List Field) (xs ys : List A) → many g (xs ++ ys) ≡ many g xs ++ many g ys
-many-append g [] ys = refl
-many-append g (x ∷ xs) ys = ap (λ (fs : List Field). g x ++ fs) (many-append g xs ys) ∙ sym (append-assoc (g x) (many g xs) (many g ys))
 
 kept-fields : (fs : List Field) → many partFields (map kept fs) ≡ fs
 kept-fields [] = refl
@@ -221,7 +219,7 @@ block-fine : (bs : List Block) → all wfBlock bs ≡ true → all finePart (blo
 block-fine [] h = refl
 block-fine (block k ps ∷ bs) h =
     all-append finePart (map placed ps) (blockParts bs)
-    (placed-fine k ps (and-r (not (isNil ps)) (all (wfPlace k) ps) (and-l (wfBlock (block k ps)) (all wfBlock bs) h)))
+    (placed-fine k ps (block-places k ps (and-l (wfBlock (block k ps)) (all wfBlock bs) h)))
     (block-fine bs (and-r (wfBlock (block k ps)) (all wfBlock bs) h))
 
 parts-fine : (c : Command) → wellFormed c ≡ true → all finePart (partsOf c) ≡ true

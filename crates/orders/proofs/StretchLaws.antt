@@ -4,16 +4,13 @@ use mathlib.Core.Bool.{true, false}
 use mathlib.Core.List.{List, [], _∷_, _++_, map, append-assoc, append-nil}
 use Prim.Native.Nat.{ℕ, _+_, _-_, _≤_, _<_}
 use native.Mathlib.Omega.{arith}
-use borrow.Author.Tests.{lt-leb, le-leb, leb-true}
-use lib.Dec.{leb}
 use lib.ListN.{length, take, drop, length-append, length-take, length-drop}
 use lib.Seq.{take-at}
-use Rattle.laws.specs.Cases.{and-l, and-r}
-use Rattle.laws.specs.Lists.{all, all-append}
+use Rattle.laws.specs.Lists.{all}
 use Rattle.rules.specs.Characters.{between}
-use Rattle.rules.specs.Units.{Base, letter, num}
+use Rattle.rules.specs.Units.{Base, letter}
 use Rattle.rules.specs.Commands.{Element, single, range, leading, valueCount, place}
-use Rattle.rules.specs.Records.{Field, field, fieldBytes, bytesOf, many, unitField, elementFields, placeFields}
+use Rattle.rules.specs.Records.{Field, field, fieldBytes, bytesOf, many, elementFields, placeFields}
 use Rattle.rules.specs.WellFormed.{wfValue}
 use Rattle.rules.specs.Orders.{argumentAt}
 use Rattle.rules.proofs.ValueBack.{v-all}
@@ -21,16 +18,12 @@ use Rattle.walk.specs.Fronts.{tagOf}
 use Rattle.arguments.specs.Runs.{fieldSize, tagIn, RunsTo}
 use Rattle.arguments.specs.Terms.{isRange, argumentBytes, bytesIn, IsNth, IsArgument}
 use Rattle.arguments.specs.declared.Argument.{Argument}
-use Rattle.arguments.proofs.RunLaws.{drop-behind, after-field, unit-tags}
+use Rattle.arguments.proofs.RunLaws.{drop-behind, after-field, name-tags, element-tags, low-tag}
 use Rattle.arguments.proofs.TermLaws.{bytes-append, argument-short}
 use Rattle.orders.specs.Stretches.{headFields, HeadTo, Within, stretchBytes, Keeps, IsStretch}
 use Rattle.orders.specs.declared.Stretch.{Stretch}
 
 -- ---- the head of a place
-
-name-tags : (nm : List (List ℕ)) → all (tagIn 4 4) (map (λ w. field 4 w) nm) ≡ true
-name-tags [] = refl
-name-tags (w ∷ nm) = name-tags nm
 
 module _ (rec : List ℕ) (at : ℕ) {place′ name r : ℕ} (p : RunsTo 1 2 rec at place′) (q : name ≡ place′ + fieldSize (drop place′ rec)) (n : RunsTo 4 4 rec name r) where
   head-is : (hs : List Field) (b : Base) (nm : List (List ℕ)) (rest : List ℕ) → drop at rec ≡ bytesOf (headFields hs b nm) ++ rest
@@ -54,20 +47,6 @@ module _ (rec : List ℕ) (at : ℕ) {place′ name r : ℕ} (p : RunsTo 1 2 rec
 
 -- ---- the value
 
-wider : (fs : List Field) → all (tagIn 7 11) fs ≡ true → all (tagIn 5 11) fs ≡ true
-wider [] h = refl
-wider (field t w ∷ fs) h =
-    let k : between 7 11 t ≡ true = and-l (between 7 11 t) (all (tagIn 7 11) fs) h in
-    let low : 7 ≤ t = leb-true 7 t (and-l (leb 7 t) (leb t 11) k) in
-    rw (le-leb 5 t (omega arith), and-r (leb 7 t) (leb t 11) k) (wider fs (and-r (between 7 11 t) (all (tagIn 7 11) fs) h))
-
-element-tags : (es : List Element) → all (tagIn 5 11) (many elementFields es) ≡ true
-element-tags [] = refl
-element-tags (single l u ∷ es) =
-    all-append (tagIn 5 11) (map unitField (l ++ (u ∷ []))) (many elementFields es) (wider (map unitField (l ++ (u ∷ []))) (unit-tags (l ++ (u ∷ [])))) (element-tags es)
-element-tags (range l r lo up inc ∷ es) =
-    all-append (tagIn 5 11) (map unitField (l ++ (num r 0 lo ∷ []))) (many elementFields es) (wider (map unitField (l ++ (num r 0 lo ∷ []))) (unit-tags (l ++ (num r 0 lo ∷ [])))) (element-tags es)
-
 -- a value that is not empty begins with an element
 value-tag : (e : Element) (es : List Element) (rest : List ℕ) → 5 ≤ tagOf (bytesOf (many elementFields (e ∷ es)) ++ rest)
 value-tag (single l u) es rest = omega arith
@@ -85,10 +64,6 @@ pub bytes-long : (rec : List ℕ) (a e : ℕ) → a ≤ e → e ≤ length rec �
 bytes-long rec a e h k = omega (arith, length-take (e - a) (drop a rec), length-drop a rec)
 
 -- ---- the whole stretch
-
--- a tag below 4 is none of a name's, an element's or a unit's
-low-tag : (low high t : ℕ) → t < low → between low high t ≡ false
-low-tag low high t h = rw (lt-leb low t h)
 
 module _ (rec : List ℕ) (at : ℕ) {value : ℕ} (h : HeadTo rec at value) where
   -- the head's bytes, and the value's

@@ -1,7 +1,9 @@
-// One place of a command: 15, 9, its name (10), its value (11 to 16), and the bytes of its fields.
+// One place of a command: 15, 9, its name (10, 21), its value (11 to 16), and the bytes of its fields.
 use bases;
 use elements::Value;
+use marks::Marks;
 use measure;
+use names;
 use parts;
 use pieces;
 use table;
@@ -10,14 +12,13 @@ use values;
 ghost use Prim.Native.Nat.{_<_};
 ghost use mathlib.Core.Path.{_≡_};
 ghost use lib.ListN.{length};
-ghost use Rattle.rules.specs.Commands.{seg};
 ghost use Rattle.rules.specs.Groups.{readValue};
-ghost use Rattle.rules.specs.Reading.{readPosition, readNamed, readPlace};
+ghost use Rattle.rules.specs.Reading.{readPosition};
 ghost use Rattle.table.specs.Table.{tokensIn};
 ghost use Rattle.values.specs.Passes.{Faultless};
 ghost use Rattle.bases.specs.Bases.{basesIn, baseIn};
 ghost use Rattle.parts.specs.Parts.{placeOr};
-ghost use Rattle.places.specs.Places.{valueRead, placeRead, cutIn, Sized};
+ghost use Rattle.places.specs.Places.{valueRead, placeRead, Sized, ReadsNamed, ReadsPlace};
 
 // "33rd place of the command"
 pub const MOST_PLACES: usize = 32;
@@ -25,6 +26,8 @@ pub const MOST_PLACES: usize = 32;
 const MORE_OF_NAME: usize = 3;
 // The bytes of a place's own field: tag, length, letter.
 const PLACE_FIELD: u32 = 4;
+// The key of a place that has no name.
+const NO_NAME: u32 = 0;
 
 // 9: kind differs.
 const KIND_DIFFERS: u8 = 9;
@@ -32,11 +35,21 @@ const KIND_DIFFERS: u8 = 9;
 const WRONG_NAME: u8 = 10;
 // 15: one too many.
 const TOO_MANY: u8 = 15;
+// 21: the name stands already in its block.
+const NAME_TWICE: u8 = 21;
 
-// A place that is right: its number of arguments, the place of its value's first token, the bytes of its fields. Or a refusal.
+// A place that is right: its number of arguments, the place of its value's first token, the bytes of its fields, the key of its name. Or a refusal.
 pub enum PlaceRead {
-    Fine { args: u32, at: u32, bytes: u32 },
-    Refused { no: u8, place: u32 },
+    Fine {
+        args: u32,
+        at: u32,
+        bytes: u32,
+        key: u32,
+    },
+    Refused {
+        no: u8,
+        place: u32,
+    },
 }
 
 // The bytes of a value without fault, behind `head` bytes.
@@ -48,9 +61,17 @@ fn with_value(toks: &[u64], contents: &[u8], base: u8, head: u32) -> u32
     parts::cap(head as u64 + len as u64)
 }
 
-// The value of the n-th place, not omitted, behind `head` bytes of its place's fields.
-fn value(toks: &[u64], contents: &[u8], bases: &[u8], n: usize, head: u32, end: u32) -> PlaceRead
-    ensures { λ r. ⌜ r ≡ valueRead head (placeOr (now (toks .entry)) end)
+// The value of the n-th place, not omitted, behind `head` bytes of its place's fields; `key` is its name's.
+fn value(
+    toks: &[u64],
+    contents: &[u8],
+    bases: &[u8],
+    n: usize,
+    head: u32,
+    key: u32,
+    end: u32,
+) -> PlaceRead
+    ensures { λ r. ⌜ r ≡ valueRead head key (placeOr (now (toks .entry)) end)
         (readValue (baseIn (now (bases .entry)) n) (tokensIn (now (contents .entry)) (now (toks .entry))) end) ⌝ }
 {
     let base = bases::base(bases, n);
@@ -60,6 +81,7 @@ fn value(toks: &[u64], contents: &[u8], bases: &[u8], n: usize, head: u32, end: 
             args: args as u32,
             at: table::place(toks[0]),
             bytes: with_value(toks, contents, base, head),
+            key,
         },
     }
 }
@@ -73,39 +95,10 @@ fn position(toks: &[u64], contents: &[u8], bases: &[u8], n: usize, end: u32) -> 
             args: 1,
             at: end,
             bytes: PLACE_FIELD,
+            key: NO_NAME,
         };
     }
-    value(toks, contents, bases, n, PLACE_FIELD, end)
-}
-
-// The n-th place, named: its `=` is the token at index `equals`.
-fn named_place(
-    toks: &[u64],
-    contents: &[u8],
-    bases: &[u8],
-    n: usize,
-    equals: usize,
-    end: u32,
-) -> PlaceRead
-    requires { ⌜ equals < length (now toks) ⌝ }
-    ensures { λ r. ⌜ r ≡ placeRead (readNamed (baseIn (now (bases .entry)) n) (cutIn (now (contents .entry)) (now (toks .entry)) equals) end) ⌝ }
-{
-    match pieces::pieces(
-        &toks[..equals],
-        contents,
-        true,
-        MORE_OF_NAME,
-        WRONG_NAME,
-        table::place(toks[equals]),
-    ) {
-        Verdict::Refused { no, place } => PlaceRead::Refused { no, place },
-        Verdict::Fine => {
-            let head = parts::cap(
-                PLACE_FIELD as u64 + parts::pieces_len(&toks[..equals], contents) as u64,
-            );
-            value(&toks[equals + 1..], contents, bases, n, head, end)
-        }
-    }
+    value(toks, contents, bases, n, PLACE_FIELD, NO_NAME, end)
 }
 
 // A place that is refused: it is shown by its first token, or by the separator that ends it.
@@ -118,16 +111,47 @@ fn refused(toks: &[u64], no: u8, end: u32) -> PlaceRead
     }
 }
 
-// The n-th place of a command, in a block whose places are named or not.
+// The n-th place, named, behind places of its block with tokens `before`: its `=` is the token at index `equals`.
+fn named_place(
+    before: &[u64],
+    toks: &[u64],
+    contents: &[u8],
+    bases: &[u8],
+    n: usize,
+    equals: usize,
+    marks: Marks,
+    end: u32,
+) -> PlaceRead
+    requires { ⌜ equals < length (now toks) ⌝ }
+    ensures { λ r. ⌜ ReadsNamed (baseIn (now (bases .entry)) n) (now (contents .entry)) (now (before .entry)) (now (toks .entry)) equals marks end r ⌝ }
+{
+    let name = &toks[..equals];
+    let stop = table::place(toks[equals]);
+    match pieces::pieces(name, contents, true, MORE_OF_NAME, WRONG_NAME, stop) {
+        Verdict::Refused { no, place } => PlaceRead::Refused { no, place },
+        Verdict::Fine => {
+            let key = names::key(name, contents);
+            if names::is_twice(before, name, contents, marks, key) {
+                return refused(toks, NAME_TWICE, end);
+            }
+            let head = parts::cap(PLACE_FIELD as u64 + parts::pieces_len(name, contents) as u64);
+            value(&toks[equals + 1..], contents, bases, n, head, key, end)
+        }
+    }
+}
+
+// The n-th place of a command, in a block whose places are named or not, behind places of its block with tokens `before`, whose names are among the marks.
 pub fn place(
+    before: &[u64],
     toks: &[u64],
     contents: &[u8],
     bases: &[u8],
     named: bool,
     n: usize,
+    marks: Marks,
     end: u32,
 ) -> PlaceRead
-    ensures { λ r. ⌜ r ≡ placeRead (readPlace named (basesIn (now (bases .entry))) n (seg (tokensIn (now (contents .entry)) (now (toks .entry))) end)) ⌝ }
+    ensures { λ r. ⌜ ReadsPlace named (basesIn (now (bases .entry))) n (now (contents .entry)) (now (before .entry)) (now (toks .entry)) marks end r ⌝ }
 {
     if MOST_PLACES <= n {
         return refused(toks, TOO_MANY, end);
@@ -135,7 +159,7 @@ pub fn place(
     let equals = parts::find(toks, 0, table::EQUALS);
     if equals < toks.len() {
         if named {
-            return named_place(toks, contents, bases, n, equals, end);
+            return named_place(before, toks, contents, bases, n, equals, marks, end);
         }
         return refused(toks, KIND_DIFFERS, end);
     }

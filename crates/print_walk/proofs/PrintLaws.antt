@@ -17,6 +17,7 @@ use Rattle.rules.specs.WellFormed.{wfElement, wfValue, wfPieces, wfPlace, wfBlo
 use Rattle.rules.specs.Printing.{sepText, lexText, render, unitLex, Link, firstUnit, dashLinks, tailLinks, isShort, laterLinks, restLinks, linksLex, valueLex, moreLex, joinedLex, wordLex, nameLex, placeLex, blockLex, commandLex, print}
 use Rattle.rules.proofs.CommandBack.{c-code, c-blocks}
 use Rattle.rules.proofs.DecodeEncode.{place-value}
+use Rattle.rules.proofs.Names.{block-places}
 use Rattle.rules.proofs.RoundTrip.{links-append}
 use Rattle.rules.proofs.ValueBack.{v-all}
 use Rattle.separators.specs.Separators.{separatorText}
@@ -185,10 +186,11 @@ unfolding textFrom
 blocks-text [] s w = refl
 blocks-text (block k [] ∷ bs) s w = absurd (false≢true w)
 blocks-text (block k (p ∷ ps) ∷ bs) s w =
-    let wb : all (wfPlace k) (p ∷ ps) ≡ true = and-l (all (wfPlace k) (p ∷ ps)) (all wfBlock bs) w in
+    let b : Block = block k (p ∷ ps) in
+    let wb : all (wfPlace k) (p ∷ ps) ≡ true = block-places k (p ∷ ps) (and-l (wfBlock b) (all wfBlock bs) w) in
     let fs : List Field = many blockFields bs in
     let M : List ℕ = render (moreLex comma (map placeLex ps)) in
-    let rest : Rest fs (blocksText bs) = λ s′ l. blocks-text bs s′ (and-r (all (wfPlace k) (p ∷ ps)) (all wfBlock bs) w) in
+    let rest : Rest fs (blocksText bs) = λ s′ l. blocks-text bs s′ (and-r (wfBlock b) (all wfBlock bs) w) in
     ap (λ x. sepText colon ++ x)
     (ap (textFrom 0 (moved s 2)) (append-assoc (placeFields p) (many placeFields ps) fs)
     ∙ place-text k p (many placeFields ps ++ fs) (M ++ blocksText bs) (moved s 2) (and-l (wfPlace k p) (all (wfPlace k) ps) wb)

@@ -19,7 +19,7 @@ use Rattle.links.specs.declared.Link.{Link}
 use Rattle.leads.specs.Fields.{tagIn, contentIn, startsUnit, leadIn, shortForm, upperIn, incrementIn, fieldsIn, sizeAt, nextAt, contentAt, lastAt, fieldFits, followed, Stands, Units}
 use Rattle.leads.proofs.HeadLaws.{Head, head, next-past, unit-byte}
 use Rattle.leads.proofs.FitLaws.{fit-tag, fit-small, fit-place, fit-range, fit-numeral, fit-fraction, byte-inside, content-part, content-byte}
-use Rattle.leads.proofs.SameLaws.{nil-none, nil-some}
+use Rattle.leads.proofs.ShortLaws.{nil-none, nil-some}
 use Rattle.leads.proofs.SplitLaws.{Lead, lead}
 use Rattle.print_walk.specs.Walk.{Before, codeSeparator, placeSeparator, nameSeparator, unitSeparator, elementSeparator, shortIn, endBehind, fieldText, moved, begun, after, skipped, textFrom}
 use Rattle.print_walk.specs.Steps.{between, stateAt, textLeft, Ready, contentOf, textIn, LinkFits, plainLink, movedTo, Steps, UnitSteps}

@@ -11,7 +11,7 @@ use lib.ListN.{length, getD, take, drop, length-append, drop-of-length-le}
 use Rattle.laws.specs.Cases.{byBool}
 use Rattle.laws.specs.Over.{over, part, back, length-part}
 use Rattle.rules.specs.Characters.{byte}
-use Rattle.rules.specs.Commands.{Command, command, seg, split, Cut, cut, uncut, cutAt, pieces}
+use Rattle.rules.specs.Commands.{Name, placeName, Command, command, seg, split, Cut, cut, uncut, cutAt, pieces}
 use Rattle.rules.specs.Reading.{Placed, unplaced, PlacedBlock, placedBlock, blockOf, blockSize, kindOf, readPlace, readPlaces, readBlock, readBlocks, runningBlocks, readSegs, readCut}
 use Rattle.rules.specs.Records.{field, fieldBytes, bytesOf, many, placeFields, blockFields, encode}
 use Rattle.rules.specs.Refusals.{ok, _>>=_, mapR}
@@ -33,25 +33,27 @@ use Rattle.recorder.proofs.PlaceLaws.{chained, room-behind}
 
 -- with the place e for the separator behind them: the places from index i on are left
 pub record PlacesLeft (ts cs ls : List ℕ) (k : Bool) (n₀ : ℕ) (old : List ℕ) (e : ℕ) (xs : List Placed) (i n z : ℕ) (o : List ℕ) : Type 0 where
+  names : List Name
   rest : List Placed
-  is : readPlaces k (basesIn ls) n (partsFrom comma e cs ts i) ≡ ok rest
+  is : readPlaces k (basesIn ls) n names (partsFrom comma e cs ts i) ≡ ok rest
   at : Writing (placesBytes xs) (placesBytes rest) old z o
   count : n + length rest ≡ n₀ + length xs
 
 abbrev pub Placing : List ℕ → List ℕ → List ℕ → Bool → ℕ → List ℕ → ℕ → ℕ → ℕ → List ℕ → Type 0
 Placing ts cs ls k n₀ old i n z o =
-    (e : ℕ) (xs : List Placed) → readPlaces k (basesIn ls) n₀ (split comma e (tokensIn cs ts)) ≡ ok xs → PlacesLeft ts cs ls k n₀ old e xs i n z o
+    (e : ℕ) (xs : List Placed) → readPlaces k (basesIn ls) n₀ [] (split comma e (tokensIn cs ts)) ≡ ok xs → PlacesLeft ts cs ls k n₀ old e xs i n z o
 
 pub placing-none : (ts cs ls : List ℕ) (k : Bool) (n₀ : ℕ) (old : List ℕ) → Placing ts cs ls k n₀ old 0 n₀ 0 old
-placing-none ts cs ls k n₀ old e xs h = record { rest = xs; is = rw (parts-all comma e cs ts) h; at = writing-none (placesBytes xs) old; count = refl }
+placing-none ts cs ls k n₀ old e xs h = record { names = []; rest = xs; is = rw (parts-all comma e cs ts) h; at = writing-none (placesBytes xs) old; count = refl }
 
 module _ (ts cs ls : List ℕ) (k : Bool) (n₀ : ℕ) (old : List ℕ) (i n z : ℕ) (o : List ℕ) where
   -- the next place, between i and j, and what is left behind it
   record NextPlace (j e : ℕ) (xs : List Placed) : Type 0 where
+    names : List Name
     x : Placed
     more : List Placed
-    here : readPlace k (basesIn ls) n (seg (tokensIn cs (take (j - i) (drop i ts))) (placeOr (drop j ts) e)) ≡ ok x
-    behind : readPlaces k (basesIn ls) (n + 1) (partsFrom comma e cs ts (j + 1)) ≡ ok more
+    here : readPlace k (basesIn ls) n names (seg (tokensIn cs (take (j - i) (drop i ts))) (placeOr (drop j ts) e)) ≡ ok x
+    behind : readPlaces k (basesIn ls) (n + 1) (placeName (unplaced x) ∷ names) (partsFrom comma e cs ts (j + 1)) ≡ ok more
     at : Writing (placesBytes xs) (placeBytes x ++ placesBytes more) old z o
     count : n + 1 + length more ≡ n₀ + length xs
     few : n < 32
@@ -60,9 +62,10 @@ module _ (ts cs ls : List ℕ) (k : Bool) (n₀ : ℕ) (old : List ℕ) (i n z :
   next-place {j} e xs h f w =
       let s = seg (tokensIn cs (take (j - i) (drop i ts))) (placeOr (drop j ts) e) in
       let us = partsFrom comma e cs ts (j + 1) in
-      bind-ok (readPlace k (basesIn ls) n s) (λ x. mapR (λ xs. x ∷ xs) (readPlaces k (basesIn ls) (suc n) us)) (w .rest) (rw (parts-next comma e cs ts i h f refl) at (w .is))
-      (λ x a g. map-ok (λ xs. x ∷ xs) (readPlaces k (basesIn ls) (suc n) us) (w .rest) g
+      bind-ok (readPlace k (basesIn ls) n (w .names) s) _ (w .rest) (rw (parts-next comma e cs ts i h f refl) at (w .is))
+      (λ x a g. map-ok (λ xs. x ∷ xs) (readPlaces k (basesIn ls) (suc n) (placeName (unplaced x) ∷ w .names) us) (w .rest) g
       (λ more a′ r. record {
+        names = w .names;
         x = x;
         more = more;
         here = a;
@@ -89,6 +92,7 @@ module _ (ts cs ls : List ℕ) (k : Bool) (n₀ : ℕ) (old : List ℕ) (i n z :
           let m = placesBytes (now′ .more) in
           record {
             end = placeOr (drop j ts) (w .end);
+            names = now′ .names;
             x = now′ .x;
             is = now′ .here;
             fits = omega (arith, writing-room (x ++ m) (now′ .at) (w .fits), writing-long (x ++ m) (now′ .at) (w .fits), length-append x m, length-part o z);
@@ -101,7 +105,7 @@ module _ (ts cs ls : List ℕ) (k : Bool) (n₀ : ℕ) (old : List ℕ) (i n z :
         → Placing ts cs ls k n₀ old (j + 1) (n + 1) (z + r) (back o z ys)
     placing-more {j} h f p e xs g =
         let q = next-place e xs h f (v e xs g) in
-        record { rest = q .more; is = q .behind; at = writing-more (placeBytes (q .x)) (placesBytes (q .more)) (q .at) (p (placeOr (drop j ts) e) (q .x) (q .here)); count = q .count }
+        record { names = placeName (unplaced (q .x)) ∷ q .names; rest = q .more; is = q .behind; at = writing-more (placeBytes (q .x)) (placesBytes (q .more)) (q .at) (p (q .names) (placeOr (drop j ts) e) (q .x) (q .here)); count = q .count }
 
     pub placing-all : length ts < i → PutPlaces ts cs ls k n₀ z n old o
     placing-all h e xs g =
@@ -114,7 +118,7 @@ module _ (ts cs ls : List ℕ) (k : Bool) (n₀ : ℕ) (old : List ℕ) (i n z :
 -- a block that is read: its kind, its places
 record BlockIs (ts cs ls : List ℕ) (k : Bool) (n e : ℕ) (b : PlacedBlock) : Type 0 where
   xs : List Placed
-  places : readPlaces k (basesIn ls) n (split comma e (tokensIn cs ts)) ≡ ok xs
+  places : readPlaces k (basesIn ls) n [] (split comma e (tokensIn cs ts)) ≡ ok xs
   many′ : blockSize b ≡ length xs
   bytes : blockBytes b ≡ fieldBytes (field 2 (cond k (byte "N") (byte "P") ∷ [])) ++ placesBytes xs
 
@@ -122,7 +126,7 @@ module _ (ts cs ls : List ℕ) (n : ℕ) {k : Bool} (g : HasKind ts k) where
   block-is : (e : ℕ) (b : PlacedBlock) → readBlock (basesIn ls) n (split comma e (tokensIn cs ts)) ≡ ok b → BlockIs ts cs ls k n e b
   block-is e b h =
       let ss = split comma e (tokensIn cs ts) in
-      map-ok (λ ps. placedBlock (kindOf ss) ps) (readPlaces (kindOf ss) (basesIn ls) n ss) b h
+      map-ok (λ ps. placedBlock (kindOf ss) ps) (readPlaces (kindOf ss) (basesIn ls) n [] ss) b h
       (λ xs a r. record { xs = xs; places = rw (g cs e) a; many′ = ap blockSize (sym r); bytes = rw (← r, g cs e) })
 
   pub block-room : (room : ℕ) → BlockFits ts cs ls n room → 4 ≤ room

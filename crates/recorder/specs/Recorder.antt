@@ -1,12 +1,12 @@
 -- What it is to write a part of a command: the rules read it, its fields fit the buffer, and they stand over the buffer's start afterwards. What the
--- rules read is the same whatever the place of the separator that ends the part, and is written for every such place.
+-- rules read is the same whatever the place of the separator that ends the part and whatever names stand in the block before it, and is written for all of these.
 use Prim.Native.Nat.{ℕ, _+_, _≤_}
 use mathlib.Core.Path.{_≡_}
 use mathlib.Core.Bool.{Bool}
-use mathlib.Core.List.{List, map, _++_}
+use mathlib.Core.List.{List, [], map, _++_}
 use lib.ListN.{length}
 use Rattle.laws.specs.Over.{over}
-use Rattle.rules.specs.Commands.{Place, place, Command, seg, split, cutAt}
+use Rattle.rules.specs.Commands.{Name, Place, place, Command, seg, split, cutAt}
 use Rattle.rules.specs.Reading.{Placed, unplaced, PlacedBlock, blockOf, blockSize, readNamed, readPlace, readPlaces, readBlock, readBlocks, readSegs, readCut}
 use Rattle.rules.specs.Records.{Field, field, bytesOf, many, elementFields, placeFields, blockFields, encode}
 use Rattle.rules.specs.Refusals.{ok}
@@ -50,35 +50,39 @@ pub record NameFits (ts cs : List ℕ) (l room : ℕ) : Type 0 where
   pub base : Base
   pub own : l ≡ letter base
   pub end : ℕ
+  pub names : List Name
   pub x : Placed
-  pub is : readNamed base (cutAt equals (tokensIn cs ts)) end ≡ ok x
+  pub is : readNamed base names (cutAt equals (tokensIn cs ts)) end ≡ ok x
   pub fits : length (innerBytes x) ≤ room
 
 abbrev pub PutName : List ℕ → List ℕ → ℕ → ℕ → List ℕ → List ℕ → Type 0
-PutName ts cs l r old new = (b : Base) (e : ℕ) (x : Placed) → l ≡ letter b → readNamed b (cutAt equals (tokensIn cs ts)) e ≡ ok x → Wrote (innerBytes x) r old new
+PutName ts cs l r old new =
+    (b : Base) (ns : List Name) (e : ℕ) (x : Placed) → l ≡ letter b → readNamed b ns (cutAt equals (tokensIn cs ts)) e ≡ ok x → Wrote (innerBytes x) r old new
 
 -- ---- the n-th place
 
 pub record PlaceFits (ts cs ls : List ℕ) (k : Bool) (n room : ℕ) : Type 0 where
   pub end : ℕ
+  pub names : List Name
   pub x : Placed
-  pub is : readPlace k (basesIn ls) n (seg (tokensIn cs ts) end) ≡ ok x
+  pub is : readPlace k (basesIn ls) n names (seg (tokensIn cs ts) end) ≡ ok x
   pub fits : length (placeBytes x) ≤ room
 
 abbrev pub PutPlace : List ℕ → List ℕ → List ℕ → Bool → ℕ → ℕ → List ℕ → List ℕ → Type 0
-PutPlace ts cs ls k n r old new = (e : ℕ) (x : Placed) → readPlace k (basesIn ls) n (seg (tokensIn cs ts) e) ≡ ok x → Wrote (placeBytes x) r old new
+PutPlace ts cs ls k n r old new =
+    (ns : List Name) (e : ℕ) (x : Placed) → readPlace k (basesIn ls) n ns (seg (tokensIn cs ts) e) ≡ ok x → Wrote (placeBytes x) r old new
 
 -- ---- places, and the number of the place behind them
 
 pub record PlacesFit (ts cs ls : List ℕ) (k : Bool) (n room : ℕ) : Type 0 where
   pub end : ℕ
   pub xs : List Placed
-  pub is : readPlaces k (basesIn ls) n (split comma end (tokensIn cs ts)) ≡ ok xs
+  pub is : readPlaces k (basesIn ls) n [] (split comma end (tokensIn cs ts)) ≡ ok xs
   pub fits : length (placesBytes xs) ≤ room
 
 abbrev pub PutPlaces : List ℕ → List ℕ → List ℕ → Bool → ℕ → ℕ → ℕ → List ℕ → List ℕ → Type 0
 PutPlaces ts cs ls k n r m old new =
-    (e : ℕ) (xs : List Placed) → readPlaces k (basesIn ls) n (split comma e (tokensIn cs ts)) ≡ ok xs → (m ≡ n + length xs) × Wrote (placesBytes xs) r old new
+    (e : ℕ) (xs : List Placed) → readPlaces k (basesIn ls) n [] (split comma e (tokensIn cs ts)) ≡ ok xs → (m ≡ n + length xs) × Wrote (placesBytes xs) r old new
 
 -- ---- a block, and the number of the place behind it
 

@@ -1,3 +1,5 @@
+pub mod NamesLaws
+pub mod NextLaws
 pub mod PlacesLaws
 pub mod BlocksLaws
 pub mod PlacesBytes

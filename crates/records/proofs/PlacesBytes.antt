@@ -1,6 +1,6 @@
 -- The places of a block that were read from the front of bytes are well formed and written to the same bytes again; and well-formed places are read back.
 use mathlib.Core.Path.{_≡_, refl, sym, ap, _∙_, subst}
-use mathlib.Core.Bool.{Bool, true, false, _&&_, not, false≢true}
+use mathlib.Core.Bool.{Bool, true, false, _&&_, _||_, not, false≢true}
 use mathlib.Core.List.{List, [], _∷_, _++_, map}
 use mathlib.Core.Option.{Option, some}
 use Prim.Native.Nat.{ℕ, zero, suc, _+_, _*_, _≤_, _<_}
@@ -11,17 +11,18 @@ use lib.Dec.{leb, ltb}
 use lib.ListN.{length}
 use Rattle.laws.specs.Cases.{and-l, and-r}
 use Rattle.laws.specs.Lists.{all, isNil}
-use Rattle.rules.specs.Commands.{Place, place, placeCount, mult}
+use Rattle.rules.specs.Commands.{Place, place, placeName, placeCount, mult, block}
 use Rattle.rules.specs.Records.{Field, placeFields, many, bytesOf}
-use Rattle.rules.specs.WellFormed.{wfPlace}
+use Rattle.rules.specs.WellFormed.{wfPlace, namesDiffer, wfBlock}
 use Rattle.rules.proofs.CommandBack.{mult-pos}
+use Rattle.rules.proofs.Names.{block-places, block-names}
 use Rattle.rules.proofs.ValueBack.{and-both}
 use Rattle.walk.specs.Fronts.{Read, only, tagOf}
 use Rattle.walk.proofs.FrontLaws.{only-some, Small}
 use Rattle.walk.proofs.SeveralLaws.{goods, Wrote, several-is, several-all}
 use Rattle.judged_places.specs.Places.{isTag, onePlace}
 use Rattle.judged_places.proofs.PlaceBytes.{place-is, place-back}
-use Rattle.records.specs.Blocks.{nextPlace, withPlace, somePlaces, places}
+use Rattle.records.specs.Blocks.{nextPlace, withPlace, somePlaces, mayBeBlock, places}
 
 module _ (named : Bool) where
   -- a place that is well formed and leaves the orders within their limit
@@ -90,9 +91,16 @@ module _ (named : Bool) where
 
   -- ---- all places
 
+  block-some : (ps : List Place) → wfBlock (block named ps) ≡ true → not (isNil ps) ≡ true
+  block-some ps h =
+      let a : Bool = all (wfPlace named) ps in
+      let d : Bool = not named || namesDiffer (map placeName ps) in
+      and-l (not (isNil ps)) a (and-l (not (isNil ps) && a) d h)
+
   pub record PlacesWrote (n o : ℕ) (r : List ℕ) (ps : List Place) (r′ : List ℕ) : Type 0 where
     pub some-there : not (isNil ps) ≡ true
     pub well : all (wfPlace named) ps ≡ true
+    pub names : not named || namesDiffer (map placeName ps) ≡ true
     pub few : length ps ≤ n
     pub orders : o * mult (map placeCount ps) ≤ 65535
     pub bytes : r ≡ bytesOf (many placeFields ps) ++ r′
@@ -100,17 +108,26 @@ module _ (named : Bool) where
   pub places-is : (n o : ℕ) (r : List ℕ) (ps : List Place) (r′ : List ℕ) → Small r → places named n o r ≡ some (ps, r′) → PlacesWrote n o r ps r′
   unfolding places
   places-is n o r ps r′ s e =
-      only-some (λ qs. not (isNil qs)) (somePlaces named n o r) ps r′ e
-      (λ t k.
+      only-some (mayBeBlock named) (somePlaces named n o r) ps r′ e
+      (λ b k.
       let w = several-is (isTag 3) (nextPlace named) withPlace good placeFields next-is n o r ps r′ s k in
-      record { some-there = t; well = all-well o ps (w .well); few = w .few; orders = some-few o ps t (w .well); bytes = w .bytes })
+      let t : not (isNil ps) ≡ true = and-l (not (isNil ps)) (not named || namesDiffer (map placeName ps)) b in
+      record {
+        some-there = t;
+        well = all-well o ps (w .well);
+        names = and-r (not (isNil ps)) (not named || namesDiffer (map placeName ps)) b;
+        few = w .few;
+        orders = some-few o ps t (w .well);
+        bytes = w .bytes;
+      })
 
-  pub places-back : (n o : ℕ) (ps : List Place) (rest : List ℕ) → not (isNil ps) ≡ true → all (wfPlace named) ps ≡ true → length ps ≤ n → o * mult (map placeCount ps) ≤ 65535
+  pub places-back : (n o : ℕ) (ps : List Place) (rest : List ℕ) → wfBlock (block named ps) ≡ true → length ps ≤ n → o * mult (map placeCount ps) ≤ 65535
       → tagOf rest < 3 → places named n o (bytesOf (many placeFields ps) ++ rest) ≡ some (ps, rest)
   unfolding places
-  places-back n o ps rest t h l m k =
+  places-back n o ps rest h l m k =
       rw (
-        several-all (isTag 3) (nextPlace named) withPlace good placeFields ended next-back opens closes ps n o rest (all-good o ps h m) l
+        several-all (isTag 3) (nextPlace named) withPlace good placeFields ended next-back opens closes ps n o rest (all-good o ps (block-places named ps h) m) l
             (ne-eqb (tagOf rest) 3 (λ e. omega arith)) (lt-ltb (tagOf rest) 4 (omega arith)),
-        t,
+        block-some ps h,
+        block-names named ps h,
       )

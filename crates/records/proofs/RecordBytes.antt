@@ -7,7 +7,7 @@ use mathlib.Core.Option.{Option, none, some}
 use Prim.Native.Nat.{ℕ, zero, suc, _+_, _-_, _*_, _≤_, _<_}
 use native.Mathlib.Nat.{mul-one, mul-le-mul-left}
 use native.Mathlib.Omega.{arith}
-use borrow.Author.Tests.{eqb-true, ne-eqb, le-leb, leb-true, lt-ltb, ltb-true}
+use borrow.Author.Tests.{eqb-true, ne-eqb, le-leb, leb-true, lt-ltb, ltb-true, not-true}
 use lib.Dec.{leb, ltb, eqb}
 use lib.ListN.{length, length-append}
 use Rattle.laws.specs.Cases.{pick, byBool, byOption, some-inj, none≢some, and-l, and-r}
@@ -16,9 +16,10 @@ use Rattle.rules.specs.Refusals.{Res, ok, bad}
 use Rattle.rules.specs.Units.{isIdentifier}
 use Rattle.rules.specs.Commands.{Place, placeCount, mult, Block, block, placesOf, allPlaces, Command, command}
 use Rattle.rules.specs.Records.{Field, field, placeFields, blockFields, many, fieldBytes, bytesOf, encode, decode, kindOfByte}
-use Rattle.rules.specs.WellFormed.{wfPieces, wfPlace, wfBlock, wellFormed, judged, recordOf}
+use Rattle.rules.specs.WellFormed.{wfPieces, wfBlock, wellFormed, judged, recordOf}
 use Rattle.rules.specs.Orders.{blockCount, count}
 use Rattle.rules.proofs.CommandBack.{mult-pos, count-all, c-code, c-few, c-blocks, c-places, c-count}
+use Rattle.rules.proofs.Names.{block-of}
 use Rattle.rules.proofs.ValueBack.{and-both}
 use Rattle.rules.proofs.EncodeDecode.{IsRecord, record-is, record-at}
 use Rattle.walk.specs.Fields.{fits}
@@ -74,7 +75,7 @@ some-length (p ∷ ps) h = omega arith
 block-wrote : (s : Before) (t : ℕ) (w r r₁ r₂ : List ℕ) (k : Bool) (ps : List Place) (r′ : List ℕ) → t ≡ 2 → w ≡ kindLetter k ∷ [] → r ≡ fieldBytes (field t w) ++ r₁ → r₁ ≡ r₂
     → PlacesWrote k (32 - s .places) (s .orders) r₂ ps r′ → (good s (block k ps) ≡ true) × (r ≡ bytesOf (blockFields (block k ps)) ++ r′)
 block-wrote s t w r r₁ r₂ k ps r′ et ew kr er g = (
-  good-of s (block k ps) (and-both (not (isNil ps)) (all (wfPlace k) ps) (g .some-there) (g .well)) (omega (arith, g .few, some-length ps (g .some-there))) (g .orders),
+  good-of s (block k ps) (block-of k ps (not-true (isNil ps) (g .some-there)) (g .well) (g .names)) (omega (arith, g .few, some-length ps (g .some-there))) (g .orders),
   kr ∙ rw (et, ew, er, g .bytes),
 )
 
@@ -107,11 +108,10 @@ ended t = ltb t 3
 next-back : (s : Before) (b : Block) (rest : List ℕ) → good s b ≡ true → ended (tagOf rest) ≡ true → nextBlock s (bytesOf (blockFields b) ++ rest) ≡ some (b, rest)
 unfolding nextBlock fits
 next-back s (block k ps) rest h t =
-    let w = g-well s (block k ps) h in
     rw (
       front-field 2 (kindLetter k ∷ []) (bytesOf (many placeFields ps) ++ rest) refl,
       letter-kind k,
-      places-back k (32 - s .places) (s .orders) ps rest (and-l (not (isNil ps)) (all (wfPlace k) ps) w) (and-r (not (isNil ps)) (all (wfPlace k) ps) w)
+      places-back k (32 - s .places) (s .orders) ps rest (g-well s (block k ps) h)
           (omega (arith, g-places s (block k ps) h)) (g-orders s (block k ps) h) (ltb-true (tagOf rest) 3 t),
     )
 

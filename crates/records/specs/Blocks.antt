@@ -1,6 +1,6 @@
 -- Blocks and the whole record, read from the front of bytes: each field as document 01's rules read it, and the rules and limits on each met at once.
-use mathlib.Core.Bool.{Bool, true, false, _||_, not}
-use mathlib.Core.List.{List, [], _∷_}
+use mathlib.Core.Bool.{Bool, true, false, _&&_, _||_, not}
+use mathlib.Core.List.{List, [], _∷_, map}
 use mathlib.Core.Option.{Option, none, some}
 use Prim.Native.Nat.{ℕ, suc, _+_, _-_, _*_}
 use lib.Dec.{leb, eqb}
@@ -8,11 +8,13 @@ use lib.ListN.{length}
 use Rattle.laws.specs.Cases.{pick}
 use Rattle.laws.specs.Lists.{isNil}
 use Rattle.rules.specs.Refusals.{moreOfCode, mostBlocks, mostPlaces, mostOrders}
-use Rattle.rules.specs.Commands.{Place, placeCount, Block, block, placesOf, Command, command}
+use Rattle.rules.specs.Commands.{Place, placeName, placeCount, Block, block, placesOf, Command, command}
 use Rattle.rules.specs.Records.{Field, field, kindOfByte}
+use Rattle.rules.specs.WellFormed.{namesDiffer}
 use Rattle.rules.specs.Orders.{blockCount}
 use Rattle.walk.specs.Fronts.{Read, andThen, only, made, front, several}
 use Rattle.judged_places.specs.Places.{isTag, pieces, onePlace}
+use Rattle.judged_names.specs.Names.{isNameOf}
 
 -- ---- the places of a block
 
@@ -27,9 +29,16 @@ withPlace o p = o * placeCount p
 abbrev pub somePlaces : Bool → ℕ → ℕ → List ℕ → Read (List Place)
 somePlaces named n o r = several (isTag 3) (nextPlace named) withPlace n o r
 
--- "Nothing after `:` is one omitted place.": a block has a place
+-- "Nothing after `:` is one omitted place.": a block has a place; M-102: no name stands twice in its block
+abbrev pub mayBeBlock : Bool → List Place → Bool
+mayBeBlock named ps = not (isNil ps) && (not named || namesDiffer (map placeName ps))
+
 unfoldable pub places : Bool → ℕ → ℕ → List ℕ → Read (List Place)
-places named n o r = only (λ ps. not (isNil ps)) (somePlaces named n o r)
+places named n o r = only (mayBeBlock named) (somePlaces named n o r)
+
+-- the place that is next behind others: in a named block its name is none of theirs
+unfoldable pub freshPlace : Bool → List Place → List ℕ → Read Place
+freshPlace named ps r = only (λ p. not named || not (isNameOf ps (placeName p))) (onePlace named r)
 
 -- ---- a block: tag 2
 

@@ -1,20 +1,47 @@
 -- What the judge's answers say: of places and blocks what was read from the front of the bytes, its numbers, and where the rest begins; of the whole
 -- record the command that it holds, or refusal 18.
 use mathlib.Core.Path.{_≡_}
-use mathlib.Core.Bool.{Bool}
-use mathlib.Core.List.{List, _++_, map}
+use mathlib.Core.Bool.{Bool, true, _||_, not}
+use mathlib.Core.List.{List, [], _∷_, _++_, map}
 use mathlib.Core.Option.{Option, none, some}
 use Prim.Native.Nat.{ℕ, _+_, _-_, _*_, _≤_}
 use lib.ListN.{length, take, drop}
 use Rattle.rules.specs.Refusals.{Res, ok, bad, notWellFormed, mostPlaces, mostOrders}
 use Rattle.rules.specs.Commands.{Place, placeCount, mult, Block, placesOf, allPlaces, Command, command}
+use Rattle.rules.specs.Records.{bytesOf, many, placeFields}
 use Rattle.rules.specs.Orders.{blockCount, count}
 use Rattle.rules.specs.WellFormed.{recordOf}
-use Rattle.records.specs.Blocks.{places, Before, nextBlock, blocks}
+use Rattle.marks.specs.Marks.{addedIf}
+use Rattle.marks.specs.declared.Marks.{Marks}
+use Rattle.arguments.specs.Terms.{bytesIn}
+use Rattle.judged_places.specs.Judging.{PlaceIs}
+use Rattle.judged_names.specs.Names.{allMarked}
+use Rattle.records.specs.Blocks.{places, freshPlace, Before, nextBlock, blocks}
+use Rattle.records.specs.declared.Next.{Next}
+use Rattle.records.specs.declared.Next.the-variants.{Is, Bad as NoNext}
 use Rattle.records.specs.declared.Places.{Places}
 use Rattle.records.specs.declared.Places.the-variants.{Are, Bad as NoPlaces}
 use Rattle.records.specs.declared.Judged.{Judged}
 use Rattle.records.specs.declared.Judged.the-variants.{Good, Bad}
+
+-- these places stand from `from` to `at`, and in a named block their names are marked
+pub record Stand (named : Bool) (rec : List ℕ) (from at : ℕ) (m : Marks) (ps : List Place) : Type 0 where
+  pub order : from ≤ at
+  pub inside : at ≤ length rec
+  pub bytes : bytesIn rec from at ≡ bytesOf (many placeFields ps)
+  pub marks : not named || allMarked m ps ≡ true
+
+-- a place that was read behind these, and stands there with them, its name's key being u
+pub record NextIs (named : Bool) (rec : List ℕ) (from at : ℕ) (m : Marks) (ps : List Place) (n k u : ℕ) : Type 0 where
+  pub here : PlaceIs (freshPlace named ps (drop at rec)) rec n k
+  pub more : Stand named rec from k (addedIf named m u) (ps ++ (here .p ∷ []))
+
+abbrev pub NextAs : Bool → List ℕ → ℕ → ℕ → Marks → List Place → Next → Type 0
+NextAs named rec from at m ps (Is n k u) = NextIs named rec from at m ps n k u
+NextAs named rec from at m ps NoNext = freshPlace named ps (drop at rec) ≡ none
+
+abbrev pub IsNext : Bool → List ℕ → ℕ → ℕ → Marks → Next → Type 0
+IsNext named rec from at m r = (ps : List Place) → Stand named rec from at m ps → NextAs named rec from at m ps r
 
 -- n places and o orders were before; now they are n′ and o′; `old` and `new` are the numbers of arguments, before and after
 pub record PlacesAre (named : Bool) (rec : List ℕ) (at n o : ℕ) (old new : List ℕ) (n′ o′ k : ℕ) : Type 0 where

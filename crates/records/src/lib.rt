@@ -2,10 +2,12 @@
 ghost use mathlib.Core.Path.{_≡_};
 ghost use Prim.Native.Nat.{_≤_};
 ghost use lib.ListN.{length, drop};
+ghost use mathlib.Core.List.{List};
+ghost use Rattle.rules.specs.Commands.{Place};
 ghost use Rattle.rules.specs.Answers.{Counts};
 ghost use Rattle.walk.specs.Fronts.{tagOf};
 ghost use Rattle.records.specs.Blocks.{isKind};
-ghost use Rattle.records.specs.Judged.{IsPlaces, IsBlock, IsBlocks, Judges};
+ghost use Rattle.records.specs.Judged.{Stand, IsNext, IsPlaces, IsBlock, IsBlocks, Judges};
 
 // The tags of code pieces, blocks and places.
 const CODE: u8 = 1;
@@ -26,6 +28,9 @@ const MOST_PLACES: usize = 32;
 // The most orders of a command.
 const MOST_ORDERS: u32 = 65535;
 
+// The key of a place that has no name.
+const NO_NAME: u32 = 0;
+
 // The refusal of a record that is not well formed.
 const NOT_WELL_FORMED: u8 = 18;
 
@@ -45,7 +50,43 @@ pub enum Judged {
     Bad,
 }
 
-// The places of a block, from behind its field on: at least one, at most 32 with those before, and no more than 65,535 orders.
+// The next place of a block: its number of arguments, where the next field begins, and the key of its name; or no such place.
+enum Next {
+    Is { count: u32, next: usize, key: u32 },
+    Bad,
+}
+
+// The place that stands at a position, in a block whose places begin at `from`: in a named block its name is new, those before it being marked.
+fn judge_next(rec: &[u8], from: usize, at: usize, named: bool, known: marks::Marks) -> Next
+    requires { ⌜ (tagOf (drop at (now rec)) ≡ 3) × ((ps : List Place) × Stand named (now rec) from at known ps) ⌝ }
+    ensures { λ r. ⌜ IsNext named (now (rec .entry)) from at known r ⌝ }
+{
+    let judged_places::OnePlace::Is { count, next } = judged_places::judge_place(rec, at, named)
+    else {
+        return Next::Bad;
+    };
+    if named {
+        let judged_names::Told::Once { key } = judged_names::tell(
+            &rec[from..next],
+            at - from,
+            known,
+        ) else {
+            return Next::Bad;
+        };
+        return Next::Is {
+            count: count,
+            next: next,
+            key: key,
+        };
+    }
+    Next::Is {
+        count: count,
+        next: next,
+        key: NO_NAME,
+    }
+}
+
+// The places of a block, from behind its field on: no name twice, at least one, at most 32 with those before, and no more than 65,535 orders.
 fn judge_places(
     rec: &[u8],
     from: usize,
@@ -60,12 +101,12 @@ fn judge_places(
     let mut at = from;
     let mut places = number;
     let mut total = orders;
+    let mut marks = marks::none();
     while walk::tag_at(rec, at) == PLACE {
         if places == MOST_PLACES {
             return Places::Bad;
         }
-        let judged_places::OnePlace::Is { count, next } = judged_places::judge_place(rec, at, named)
-        else {
+        let Next::Is { count, next, key } = judge_next(rec, from, at, named, marks) else {
             return Places::Bad;
         };
         total = total * count;
@@ -75,6 +116,7 @@ fn judge_places(
         counts[places] = count;
         places += 1;
         at = next;
+        marks = marks::add_if(named, marks, key);
     }
     if places == number {
         return Places::Bad;

@@ -10,7 +10,7 @@ use lib.ListN.{length, getD, length-append, length-map}
 use borrow.Author.Tests.{not-true, leb-true, eq-eqb, le-leb, lt-ltb, ne-eqb}
 use Rattle.laws.specs.Cases.{and-l, and-r, Always}
 use Rattle.laws.specs.Lists.{all, isNil, all-append}
-use Rattle.rules.specs.Commands.{Element, single, Place, place, Block, block, Command, command, leading, lastUnit, placeCount, mult, isSep, Seg, seg, first, split, cut, uncut, cutAt, pieces, isPiece, isCut, placeBase, placesOf, allPlaces}
+use Rattle.rules.specs.Commands.{Name, Element, single, Place, place, Block, block, Command, command, leading, lastUnit, placeCount, mult, isSep, Seg, seg, first, split, cut, uncut, cutAt, pieces, isPiece, isCut, placeBase, placeName, placesOf, allPlaces}
 use Rattle.rules.specs.Groups.{isJoiner}
 use Rattle.rules.specs.Orders.{blockCount}
 use Rattle.rules.specs.Printing.{unitLex, Link, link, firstUnit, dashLinks, tailLinks, restLinks, linksLex, valueLex, moreLex, joinedLex, wordLex, nameLex, placeLex, blockLex, commandLex}
@@ -21,6 +21,7 @@ use Rattle.rules.specs.Tokens.{Sep, dash, comma, colon, equals, semi, Le
 use Rattle.rules.specs.Units.{rD, Base, plain, Unit, num, keyed, identifier, symbolic, text, isIdentifier}
 use Rattle.rules.specs.WellFormed.{wfUnit, wfValue, short, wfPieces, wfPlace, wfBlock, wellFormed}
 use Rattle.rules.proofs.Counts.{count-pos}
+use Rattle.rules.proofs.Names.{freeOf, fresh, fresh-names, block-places, block-names}
 use Rattle.rules.proofs.ValueBack.{hd, tl, toks, value-back, linkOk, inner-ok, rest-ok, v-elem, v-rest}
 
 -- the parts of a conjunction
@@ -151,7 +152,7 @@ module _ (s : Sep) (hs : leb 6 (sepCode s) ≡ true) where
       (no-more t ht xs (and-r (all (noSep s) x) (all (all (noSep s)) xs) h))
 
   pub no-block : noSep s (sep equals) ≡ true → noSep s (sep comma) ≡ true → (b : Block) → wfBlock b ≡ true → all (noSep s) (blockLex b) ≡ true
-  no-block he hc (block k ps) h = no-joined comma hc (map placeLex ps) (no-places he k ps (and-r (not (isNil ps)) (all (wfPlace k) ps) h))
+  no-block he hc (block k ps) h = no-joined comma hc (map placeLex ps) (no-places he k ps (block-places k ps h))
 
   pub no-blocks : noSep s (sep equals) ≡ true → noSep s (sep comma) ≡ true → (bs : List Block) → all wfBlock bs ≡ true → all (all (noSep s)) (map blockLex bs) ≡ true
   no-blocks he hc [] h = refl
@@ -160,9 +161,9 @@ module _ (s : Sep) (hs : leb 6 (sepCode s) ≡ true) where
 
 -- ---- a place
 
-pub record PlaceBack (k : Bool) (bs : List Base) (n : ℕ) (s : Seg) (p : Place) : Type 0 where
+pub record PlaceBack (k : Bool) (bs : List Base) (n : ℕ) (ns : List Name) (s : Seg) (p : Place) : Type 0 where
   pub spot : ℕ
-  pub got : readPlace k bs n s ≡ ok (placed spot p)
+  pub got : readPlace k bs n ns s ≡ ok (placed spot p)
 
 abbrev pub piecesLex : List (List ℕ) → List Lex
 piecesLex ws = joinedLex dash (map wordLex ws)
@@ -191,12 +192,12 @@ module _ (g : List ℕ → Bool) (most : ℕ) (w : List ℕ) (ws : List (List �
   pub w-most : length ws ≤ most
   w-most = search parts
 
-pub place-back : (k : Bool) (bs : List Base) (n : ℕ) (p : Place) (ps : List ℕ) (e : ℕ) → wfPlace k p ≡ true → n < 32 → getD bs n (plain rD) ≡ placeBase p
-    → PlaceBack k bs n (seg (toks ps (placeLex p)) e) p
-place-back true bs n (place b [] v) ps e h hn hb = absurd (false≢true h)
-place-back true bs n (place b (w ∷ ws) []) ps e h hn hb =
+pub place-back : (k : Bool) (bs : List Base) (n : ℕ) (ns : List Name) (p : Place) (ps : List ℕ) (e : ℕ) → wfPlace k p ≡ true → n < 32 → getD bs n (plain rD) ≡ placeBase p → freeOf k ns (placeName p) ≡ true
+    → PlaceBack k bs n ns (seg (toks ps (placeLex p)) e) p
+place-back true bs n ns (place b [] v) ps e h hn hb hf = absurd (false≢true h)
+place-back true bs n ns (place b (w ∷ ws) []) ps e h hn hb hf =
     absurd (false≢true (and-r (wfPieces isPiece 3 (w ∷ ws)) false (and-l (wfPieces isPiece 3 (w ∷ ws) && false) true h)))
-place-back true bs n (place b (w ∷ ws) (x ∷ v)) ps e h hn hb =
+place-back true bs n ns (place b (w ∷ ws) (x ∷ v)) ps e h hn hb hf =
     let N : List Lex = piecesLex (w ∷ ws) in
     let hw : wfPieces isPiece 3 (w ∷ ws) ≡ true =
     and-l (wfPieces isPiece 3 (w ∷ ws)) true (and-l (wfPieces isPiece 3 (w ∷ ws) && true) (wfValue b (x ∷ v)) h) in
@@ -207,12 +208,13 @@ place-back true bs n (place b (w ∷ ws) (x ∷ v)) ps e h hn hb =
       got = rw (lt-ltb n 32 hn, hb, name-cut b w ws (x ∷ v) ps)
           (rw (
             pieces-back 10 isPiece (hd (pastL N ps)) isIdentifier w ws 3 ps (w-first isPiece 3 w ws hw) (w-more isPiece 3 w ws hw) (w-most isPiece 3 w ws hw),
+            hf,
             value-back b x v ts e hv,
           ));
     }
-place-back false bs n (place b (w ∷ ws) v) ps e h hn hb = absurd (false≢true h)
-place-back false bs n (place b [] []) ps e h hn hb = record { spot = e; got = rw (lt-ltb n 32 hn, hb) }
-place-back false bs n (place b [] (x ∷ v)) ps e h hn hb =
+place-back false bs n ns (place b (w ∷ ws) v) ps e h hn hb hf = absurd (false≢true h)
+place-back false bs n ns (place b [] []) ps e h hn hb hf = record { spot = e; got = rw (lt-ltb n 32 hn, hb) }
+place-back false bs n ns (place b [] (x ∷ v)) ps e h hn hb hf =
     record {
       spot = hd ps;
       got = rw (lt-ltb n 32 hn, hb, cut-none equals 0 (valueLex b (x ∷ v)) ps (no-value equals refl b (x ∷ v) h)) (rw (value-back b x v ps e h));
@@ -224,23 +226,26 @@ abbrev pub Along : List Base → ℕ → List Base → Type 0
 Along bs n [] = Always
 Along bs n (q ∷ qs) = (getD bs n (plain rD) ≡ q) × Along bs (suc n) qs
 
-pub record PlacesBack (k : Bool) (bs : List Base) (n : ℕ) (ss : List Seg) (pl : List Place) : Type 0 where
+pub record PlacesBack (k : Bool) (bs : List Base) (n : ℕ) (ns : List Name) (ss : List Seg) (pl : List Place) : Type 0 where
   pub xs : List Placed
-  pub got : readPlaces k bs n ss ≡ ok xs
+  pub got : readPlaces k bs n ns ss ≡ ok xs
   pub are : map unplaced xs ≡ pl
 
-pub places-back : (k : Bool) (bs : List Base) (n : ℕ) (p : Place) (pl : List Place) (ps : List ℕ) (e : ℕ) → all (wfPlace k) (p ∷ pl) ≡ true
-    → n + length (p ∷ pl) ≤ 32 → Along bs n (map placeBase (p ∷ pl)) → PlacesBack k bs n (segs comma e ps (placeLex p) (map placeLex pl)) (p ∷ pl)
-places-back k bs n p [] ps e h hn ha =
-    let single : PlaceBack k bs n (seg (toks ps (placeLex p)) e) p = place-back k bs n p ps e (and-l (wfPlace k p) true h) (omega arith) (ha .0) in
+pub places-back : (k : Bool) (bs : List Base) (n : ℕ) (ns : List Name) (p : Place) (pl : List Place) (ps : List ℕ) (e : ℕ) → all (wfPlace k) (p ∷ pl) ≡ true
+    → n + length (p ∷ pl) ≤ 32 → Along bs n (map placeBase (p ∷ pl)) → fresh k ns (map placeName (p ∷ pl)) ≡ true
+    → PlacesBack k bs n ns (segs comma e ps (placeLex p) (map placeLex pl)) (p ∷ pl)
+places-back k bs n ns p [] ps e h hn ha hf =
+    let single : PlaceBack k bs n ns (seg (toks ps (placeLex p)) e) p = place-back k bs n ns p ps e (and-l (wfPlace k p) true h) (omega arith) (ha .0) (and-l (freeOf k ns (placeName p)) true hf) in
     record { xs = placed (single .spot) p ∷ []; got = rw (single .got); are = refl }
-places-back k bs n p (p′ ∷ pl) ps e h hn ha =
+places-back k bs n ns p (p′ ∷ pl) ps e h hn ha hf =
     let e′ : ℕ = hd (pastL (placeLex p) ps) in
     let ps′ : List ℕ = tl (pastL (placeLex p) ps) in
-    let single : PlaceBack k bs n (seg (toks ps (placeLex p)) e′) p =
-    place-back k bs n p ps e′ (and-l (wfPlace k p) (all (wfPlace k) (p′ ∷ pl)) h) (omega arith) (ha .0) in
-    let ih : PlacesBack k bs (suc n) (segs comma e ps′ (placeLex p′) (map placeLex pl)) (p′ ∷ pl) =
-    places-back k bs (suc n) p′ pl ps′ e (and-r (wfPlace k p) (all (wfPlace k) (p′ ∷ pl)) h) (omega arith) (ha .1) in
+    let single : PlaceBack k bs n ns (seg (toks ps (placeLex p)) e′) p =
+    place-back k bs n ns p ps e′ (and-l (wfPlace k p) (all (wfPlace k) (p′ ∷ pl)) h) (omega arith) (ha .0)
+    (and-l (freeOf k ns (placeName p)) (fresh k (placeName p ∷ ns) (map placeName (p′ ∷ pl))) hf) in
+    let ih : PlacesBack k bs (suc n) (placeName p ∷ ns) (segs comma e ps′ (placeLex p′) (map placeLex pl)) (p′ ∷ pl) =
+    places-back k bs (suc n) (placeName p ∷ ns) p′ pl ps′ e (and-r (wfPlace k p) (all (wfPlace k) (p′ ∷ pl)) h) (omega arith) (ha .1)
+    (and-r (freeOf k ns (placeName p)) (fresh k (placeName p ∷ ns) (map placeName (p′ ∷ pl))) hf) in
     record { xs = placed (single .spot) p ∷ ih .xs; got = rw (single .got, ih .got); are = ap (λ l. p ∷ l) (ih .are) }
 
 -- ---- blocks
@@ -259,10 +264,12 @@ pub block-back : (bs : List Base) (n : ℕ) (b : Block) (ps : List ℕ) (e : ℕ
     → BlockBack bs n (split comma e (toks ps (blockLex b))) b
 block-back bs n (block k []) ps e h hn ha = absurd (false≢true h)
 block-back bs n (block k (p ∷ pl)) ps e h hn ha =
-    let ih : PlacesBack k bs n (segs comma e ps (placeLex p) (map placeLex pl)) (p ∷ pl) = places-back k bs n p pl ps e h hn ha in
+    let hp : all (wfPlace k) (p ∷ pl) ≡ true = block-places k (p ∷ pl) h in
+    let hf : fresh k [] (map placeName (p ∷ pl)) ≡ true = fresh-names k (map placeName (p ∷ pl)) (block-names k (p ∷ pl) h) in
+    let ih : PlacesBack k bs n [] (segs comma e ps (placeLex p) (map placeLex pl)) (p ∷ pl) = places-back k bs n [] p pl ps e hp hn ha hf in
     let sp : split comma e (toks ps (blockLex (block k (p ∷ pl)))) ≡ segs comma e ps (placeLex p) (map placeLex pl) =
-    split-joined comma e (placeLex p) (map placeLex pl) ps (no-places comma refl refl k (p ∷ pl) h) in
-    let kd : kindOf (segs comma e ps (placeLex p) (map placeLex pl)) ≡ k = kind-is k p (map placeLex pl) ps e (and-l (wfPlace k p) (all (wfPlace k) pl) h) in
+    split-joined comma e (placeLex p) (map placeLex pl) ps (no-places comma refl refl k (p ∷ pl) hp) in
+    let kd : kindOf (segs comma e ps (placeLex p) (map placeLex pl)) ≡ k = kind-is k p (map placeLex pl) ps e (and-l (wfPlace k p) (all (wfPlace k) pl) hp) in
     record {
       x = placedBlock k (ih .xs);
       got = rw (sp, kd, ih .got);

@@ -36,7 +36,7 @@ pub data ReaderRefuses (letters text old : List ℕ) : ℕ → ℕ → Type 0 wh
   aLetter : {p : ℕ} → p < length letters → p ≤ 32 → ReaderRefuses letters text old 1 p
   tooLong : 1024 < length text → ReaderRefuses letters text old 2 1024
   noEnd : length text ≤ 1024 → ReaderRefuses letters text old 6 (length text)
-  aByte : {n p : ℕ} → anyOf (3 ∷ 4 ∷ 5 ∷ 7 ∷ 8 ∷ 9 ∷ 10 ∷ 11 ∷ 12 ∷ 13 ∷ 14 ∷ 15 ∷ 16 ∷ []) n ≡ true → p < length text → length text ≤ 1024
+  aByte : {n p : ℕ} → anyOf (3 ∷ 4 ∷ 5 ∷ 7 ∷ 8 ∷ 9 ∷ 10 ∷ 11 ∷ 12 ∷ 13 ∷ 14 ∷ 15 ∷ 16 ∷ 21 ∷ []) n ≡ true → p < length text → length text ≤ 1024
       → ReaderRefuses letters text old n p
   noRoom : {p : ℕ} → length old < p → p ≤ 65536 → ReaderRefuses letters text old 17 p
 
@@ -63,14 +63,14 @@ abbrev Scanned : List ℕ → List Token → Type 0
 Scanned cs ts = Before (length cs) ts × (length cs ≤ 1024)
 
 pub scan-comes : (P : ℕ → ℕ → Type 0) (cs : List ℕ) → (1024 < length cs → P 2 1024)
-    → ((n p : ℕ) → anyOf (3 ∷ 4 ∷ 5 ∷ 7 ∷ 8 ∷ 9 ∷ 10 ∷ 11 ∷ 12 ∷ 13 ∷ 14 ∷ 15 ∷ 16 ∷ []) n ≡ true → p < length cs → length cs ≤ 1024 → P n p)
+    → ((n p : ℕ) → anyOf (3 ∷ 4 ∷ 5 ∷ 7 ∷ 8 ∷ 9 ∷ 10 ∷ 11 ∷ 12 ∷ 13 ∷ 14 ∷ 15 ∷ 16 ∷ 21 ∷ []) n ≡ true → p < length cs → length cs ≤ 1024 → P n p)
     → Comes P (Scanned cs) (scan cs)
 unfolding scan
 scan-comes P cs long hit =
     byBool (leb (length cs) 1024)
     (λ y.
     let few : length cs ≤ 1024 = leb-true (length cs) 1024 y in
-    let inside : (n p : ℕ) → anyOf (3 ∷ 4 ∷ 5 ∷ 7 ∷ 8 ∷ 9 ∷ 10 ∷ 11 ∷ 12 ∷ 13 ∷ 14 ∷ 15 ∷ 16 ∷ []) n ≡ true → p < length cs → P n p
+    let inside : (n p : ℕ) → anyOf (3 ∷ 4 ∷ 5 ∷ 7 ∷ 8 ∷ 9 ∷ 10 ∷ 11 ∷ 12 ∷ 13 ∷ 14 ∷ 15 ∷ 16 ∷ 21 ∷ []) n ≡ true → p < length cs → P n p
     = λ n p z h. hit n p z h few in
     rw (y, scan)
     (bind-comes P Whatever (Scanned cs) (firstOff 0 cs) (λ b. run idle 0 cs) (off-comes P (length cs) inside cs 0 (omega arith))

@@ -1,5 +1,6 @@
 pub mod ResultLaws
 pub mod Counts
+pub mod Names
 pub mod UnitBack
 pub mod ScanBack
 pub mod ScanLength
@@ -10,6 +11,7 @@ pub mod UnitSound
 pub mod ValueSound
 pub mod ScanSound
 pub mod ReadSound
+pub mod NamesDiffer
 pub mod UnitLength
 pub mod ValueLength
 pub mod NeverLonger

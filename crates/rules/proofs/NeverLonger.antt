@@ -1,20 +1,21 @@
 -- The printed text is never longer than the command that was read: each pass of the reader keeps a weight, and the printer writes no more than the last.
 use Prim.Native.Nat.{ℕ, zero, suc, _+_, _-_, _≤_}
 use mathlib.Core.Path.{_≡_, ap, _∙_}
-use mathlib.Core.Bool.{Bool, true, false, false≢true, Bool·beq}
+use mathlib.Core.Bool.{Bool, true, false, not, false≢true, Bool·beq}
 use mathlib.Core.List.{List, [], _∷_, _++_, map}
 use native.Mathlib.Omega.{arith}
 use lib.Dec.{ltb, leb}
 use lib.ListN.{length, length-append}
 use borrow.Author.Tests.{leb-true}
 use Rattle.laws.specs.Cases.{byBool, byOption}
-use Rattle.rules.specs.Commands.{place, Command, isSep, Seg, seg, first, consHead, split, Cut, cut, uncut, consCut, cutAt, piece, pieces, isPiece, isCut}
+use Rattle.rules.specs.Commands.{Name, place, placeName, sameName, Command, isSep, Seg, seg, first, consHead, split, Cut, cut, uncut, consCut, cutAt, piece, pieces, isPiece, isCut}
 use Rattle.rules.specs.Groups.{readValue}
 use Rattle.rules.specs.Printing.{lexText, render, valueLex, moreLex, joinedLex, wordLex, nameLex, placeLex, blockLex, commandLex, print}
 use Rattle.rules.specs.Reading.{Placed, placed, unplaced, readPosition, readNamed, readOfKind, readPlace, readPlaces, kindOf, PlacedBlock, placedBlock, readBlock, blockSize, readBlocks, runningBlocks, blockOf, readSegs, readCut, readLetters, read}
 use Rattle.rules.specs.Refusals.{ok, _>>=_, mapR}
 use Rattle.rules.specs.Tokens.{Sep, dash, comma, colon, equals, semi, Lex, word, str, sep, Token, at, idle, run, firstOff, scan, posOf, lexOf}
 use Rattle.rules.specs.Units.{Base, isIdentifier}
+use Rattle.laws.specs.Lists.{any}
 use Rattle.rules.proofs.ReadSound.{piece-is}
 use Rattle.rules.proofs.ResultLaws.{ok-inj, ok≢bad, bind-ok, map-ok, guard-ok}
 use Rattle.rules.proofs.ScanLength.{textLen, run-length}
@@ -104,38 +105,40 @@ module _ (nr e : ℕ) (g : List ℕ → Bool) where
 
 -- ---- places
 
-pub named-len : (b : Base) (c : Cut) (e : ℕ) (x : Placed) → readNamed b c e ≡ ok x → rl (placeLex (unplaced x)) ≤ wCut c
-named-len b uncut e x k = ok≢bad k
-named-len b (cut nm q ts) e x k =
+pub named-len : (b : Base) (ns : List Name) (c : Cut) (e : ℕ) (x : Placed) → readNamed b ns c e ≡ ok x → rl (placeLex (unplaced x)) ≤ wCut c
+named-len b ns uncut e x k = ok≢bad k
+named-len b ns (cut nm q ts) e x k =
     bind-ok (pieces 10 isIdentifier isPiece 3 true nm q) _ x k
-    (λ ws a k′.
+    (λ ws a k0.
+    guard-ok (not (any (sameName ws) ns)) 21 (first nm q) _ x k0
+    (λ _ k′.
     map-ok (λ v. placed (first ts e) (place b ws v)) (readValue b ts e) x k′
     (λ v c r.
-    rw (← r) (omega (arith, rl-append (nameLex ws) (valueLex b v), (first-len 10 q isPiece nm isIdentifier 3 ws a) .1, value-len b ts e v c))))
+    rw (← r) (omega (arith, rl-append (nameLex ws) (valueLex b v), (first-len 10 q isPiece nm isIdentifier 3 ws a) .1, value-len b ts e v c)))))
 
 pub position-len : (b : Base) (ts : List Token) (e : ℕ) (x : Placed) → readPosition b ts e ≡ ok x → rl (placeLex (unplaced x)) ≤ textLen ts
 position-len b [] e x k = rw (← (ok-inj k)) (omega arith)
 position-len b (t ∷ ts) e x k =
     map-ok (λ v. placed (posOf t) (place b [] v)) (readValue b (t ∷ ts) e) x k (λ v c r. rw (← r) (value-len b (t ∷ ts) e v c))
 
-pub place1-len : (k : Bool) (b : Base) (ts : List Token) (e : ℕ) (x : Placed) → readOfKind k b ts e ≡ ok x → rl (placeLex (unplaced x)) ≤ textLen ts
-place1-len true b ts e x h = omega (arith, named-len b (cutAt equals ts) e x h, cut-len equals ts)
-place1-len false b ts e x h = position-len b ts e x h
+pub place1-len : (k : Bool) (b : Base) (ns : List Name) (ts : List Token) (e : ℕ) (x : Placed) → readOfKind k b ns ts e ≡ ok x → rl (placeLex (unplaced x)) ≤ textLen ts
+place1-len true b ns ts e x h = omega (arith, named-len b ns (cutAt equals ts) e x h, cut-len equals ts)
+place1-len false b ns ts e x h = position-len b ts e x h
 
-pub place-len : (k : Bool) (bs : List Base) (n : ℕ) (ts : List Token) (e : ℕ) (x : Placed) → readPlace k bs n (seg ts e) ≡ ok x → rl (placeLex (unplaced x)) ≤ textLen ts
-place-len k bs n ts e x h =
+pub place-len : (k : Bool) (bs : List Base) (n : ℕ) (ns : List Name) (ts : List Token) (e : ℕ) (x : Placed) → readPlace k bs n ns (seg ts e) ≡ ok x → rl (placeLex (unplaced x)) ≤ textLen ts
+place-len k bs n ns ts e x h =
     guard-ok (ltb n 32) 15 (first ts e) _ x h
-    (λ _ h′. guard-ok (Bool·beq k (isCut (cutAt equals ts))) 9 (first ts e) _ x h′ (λ _ h″. place1-len k _ ts e x h″))
+    (λ _ h′. guard-ok (Bool·beq k (isCut (cutAt equals ts))) 9 (first ts e) _ x h′ (λ _ h″. place1-len k _ ns ts e x h″))
 
-pub places-len : (k : Bool) (bs : List Base) (n : ℕ) (ss : List Seg) (xs : List Placed) → readPlaces k bs n ss ≡ ok xs
+pub places-len : (k : Bool) (bs : List Base) (n : ℕ) (ns : List Name) (ss : List Seg) (xs : List Placed) → readPlaces k bs n ns ss ≡ ok xs
     → rl (moreLex comma (map placeLex (map unplaced xs))) ≤ sumS ss
-places-len k bs n [] xs h = rw (← (ok-inj h)) (omega arith)
-places-len k bs n (seg ts e ∷ ss) xs h =
-    bind-ok (readPlace k bs n (seg ts e)) (λ x. mapR (λ xs. x ∷ xs) (readPlaces k bs (suc n) ss)) xs h
+places-len k bs n ns [] xs h = rw (← (ok-inj h)) (omega arith)
+places-len k bs n ns (seg ts e ∷ ss) xs h =
+    bind-ok (readPlace k bs n ns (seg ts e)) _ xs h
     (λ x a h′.
-    map-ok (λ xs. x ∷ xs) (readPlaces k bs (suc n) ss) xs h′
+    map-ok (λ xs. x ∷ xs) (readPlaces k bs (suc n) (placeName (unplaced x) ∷ ns) ss) xs h′
     (λ xs′ a′ r.
-    rw (← r) (omega (arith, rl-append (placeLex (unplaced x)) (moreLex comma (map placeLex (map unplaced xs′))), place-len k bs n ts e x a, places-len k bs (suc n) ss xs′ a′))))
+    rw (← r) (omega (arith, rl-append (placeLex (unplaced x)) (moreLex comma (map placeLex (map unplaced xs′))), place-len k bs n ns ts e x a, places-len k bs (suc n) (placeName (unplaced x) ∷ ns) ss xs′ a′))))
 
 pub joined-len : (xs : List (List Lex)) → rl (joinedLex comma xs) ≤ rl (moreLex comma xs) - 1
 joined-len [] = omega arith
@@ -143,10 +146,10 @@ joined-len (x ∷ xs) = omega arith
 
 pub block-len : (bs : List Base) (n : ℕ) (ts : List Token) (e : ℕ) (x : PlacedBlock) → readBlock bs n (split comma e ts) ≡ ok x → rl (blockLex (blockOf x)) ≤ textLen ts
 block-len bs n ts e x h =
-    map-ok (λ ps. placedBlock (kindOf (split comma e ts)) ps) (readPlaces (kindOf (split comma e ts)) bs n (split comma e ts)) x h
+    map-ok (λ ps. placedBlock (kindOf (split comma e ts)) ps) (readPlaces (kindOf (split comma e ts)) bs n [] (split comma e ts)) x h
     (λ ps a r.
     rw (← r)
-    (omega (arith, joined-len (map placeLex (map unplaced ps)), places-len (kindOf (split comma e ts)) bs n (split comma e ts) ps a, split-len comma e ts)))
+    (omega (arith, joined-len (map placeLex (map unplaced ps)), places-len (kindOf (split comma e ts)) bs n [] (split comma e ts) ps a, split-len comma e ts)))
 
 pub blocks-len : (bs : List Base) (m n q : ℕ) (ss : List Seg) (xs : List PlacedBlock) → readBlocks bs m n q ss ≡ ok xs
     → rl (moreLex colon (map blockLex (map blockOf xs))) ≤ sumS ss

@@ -1,7 +1,7 @@
 -- A command that the reader accepts is well formed: each step that succeeds has passed the test that well-formedness asks.
 use Prim.Native.Nat.{ℕ, zero, suc, _+_, _*_, _≤_, _<_}
 use mathlib.Core.Path.{_≡_, refl, sym, ap, _∙_, subst}
-use mathlib.Core.Bool.{Bool, true, false, _&&_, not, Bool·beq}
+use mathlib.Core.Bool.{Bool, true, false, _&&_, _||_, not, Bool·beq}
 use mathlib.Core.List.{List, [], _∷_, map}
 use mathlib.Core.Option.{some}
 use native.Mathlib.Nat.{mul-one}
@@ -12,14 +12,15 @@ use borrow.Author.Tests.{eqb-true, leb-true, le-leb, ltb-true}
 use Rattle.laws.specs.Cases.{byBool, byOption, none≢some, cond-some, and-l, and-r}
 use Rattle.laws.specs.Lists.{all, any, isNil, nil-map}
 use Rattle.rules.specs.Characters.{isAlnum, isDigit}
-use Rattle.rules.specs.Commands.{Element, place, Command, placeCount, valueCount, mult, leading, isSep, Seg, seg, first, consHead, split, Cut, cut, uncut, consCut, cutAt, piece, pieces, isPiece, isCut, placesOf, allPlaces}
+use Rattle.rules.specs.Commands.{Name, Element, place, placeName, sameName, Command, placeCount, valueCount, mult, leading, isSep, Seg, seg, first, consHead, split, Cut, cut, uncut, consCut, cutAt, piece, pieces, isPiece, isCut, placesOf, allPlaces}
 use Rattle.rules.specs.Groups.{join, unitAfter, joiner, isUnit, alternate, readUnits, Group, group, Collected, collected, collectOne, collect, groupsOf, firstArg, fullArg, laterElements, elements, readValue}
 use Rattle.rules.specs.Reading.{Placed, placed, unplaced, readPosition, readNamed, readOfKind, readPlace, readPlaces, kindOf, PlacedBlock, placedBlock, readBlock, blockSize, readBlocks, running, runningBlocks, blockOf, readSegs, readCut, readLetters, read}
 use Rattle.rules.specs.Refusals.{ok, _>>=_, mapR}
 use Rattle.rules.specs.Tokens.{Sep, dash, comma, colon, equals, semi, amp, Lex, word, str, sep, Token, at, wordChars, wordMost, scan, posOf, lexOf}
 use Rattle.rules.specs.Units.{Base, Unit, isIdentifier, readUnit}
-use Rattle.rules.specs.WellFormed.{wellFormed, wfBlock, wfPlace, wfPieces, short}
+use Rattle.rules.specs.WellFormed.{wellFormed, namesDiffer, wfBlock, wfPlace, wfPieces, short}
 use Rattle.rules.proofs.CommandBack.{mult-append}
+use Rattle.rules.proofs.Names.{freeOf, fresh, names-fresh, block-of}
 use Rattle.rules.proofs.ResultLaws.{ok-inj, ok≢bad, bind-ok, map-ok, guard-ok}
 use Rattle.rules.proofs.ScanBack.{okLex}
 use Rattle.rules.proofs.ScanSound.{scan-ok}
@@ -163,46 +164,76 @@ value-some b (at p x ∷ ts) e v h =
 
 -- ---- places
 
-pub named-wf : (b : Base) (c : Cut) (e : ℕ) (x : Placed) → okCut c ≡ true → readNamed b c e ≡ ok x → wfPlace true (unplaced x) ≡ true
-named-wf b uncut e x h k = ok≢bad k
-named-wf b (cut nm q ts) e x h k =
+pub named-wf : (b : Base) (ns : List Name) (c : Cut) (e : ℕ) (x : Placed) → okCut c ≡ true → readNamed b ns c e ≡ ok x → wfPlace true (unplaced x) ≡ true
+named-wf b ns uncut e x h k = ok≢bad k
+named-wf b ns (cut nm q ts) e x h k =
     bind-ok (pieces 10 isIdentifier isPiece 3 true nm q) _ x k
-    (λ ws a k′.
+    (λ ws a k0.
+    guard-ok (not (any (sameName ws) ns)) 21 (first nm q) _ x k0
+    (λ _ k′.
     map-ok (λ v. placed (first ts e) (place b ws v)) (readValue b ts e) x k′
     (λ v c r.
     let hw : wfPieces isPiece 3 ws ≡ true =
     words-wf isPiece 3 ws (first-wf 10 q isPiece (λ w h. h) nm isIdentifier (λ w h. rw h) 3 ws (and-l (all okToken nm) (all okToken ts) h) a) in
-    rw (← r) (rw (hw, value-some b ts e v c, value-wf b ts e v (and-r (all okToken nm) (all okToken ts) h) c))))
+    rw (← r) (rw (hw, value-some b ts e v c, value-wf b ts e v (and-r (all okToken nm) (all okToken ts) h) c)))))
 
 pub position-wf : (b : Base) (ts : List Token) (e : ℕ) (x : Placed) → all okToken ts ≡ true → readPosition b ts e ≡ ok x → wfPlace false (unplaced x) ≡ true
 position-wf b [] e x h k = rw (← (ok-inj k))
 position-wf b (t ∷ ts) e x h k =
     map-ok (λ v. placed (posOf t) (place b [] v)) (readValue b (t ∷ ts) e) x k (λ v c r. rw (← r) (value-wf b (t ∷ ts) e v h c))
 
-pub place1-wf : (k : Bool) (b : Base) (ts : List Token) (e : ℕ) (x : Placed) → all okToken ts ≡ true → readOfKind k b ts e ≡ ok x → wfPlace k (unplaced x) ≡ true
-place1-wf true b ts e x h q = named-wf b (cutAt equals ts) e x (cut-ok equals ts h) q
-place1-wf false b ts e x h q = position-wf b ts e x h q
+pub place1-wf : (k : Bool) (b : Base) (ns : List Name) (ts : List Token) (e : ℕ) (x : Placed) → all okToken ts ≡ true → readOfKind k b ns ts e ≡ ok x → wfPlace k (unplaced x) ≡ true
+place1-wf true b ns ts e x h q = named-wf b ns (cutAt equals ts) e x (cut-ok equals ts h) q
+place1-wf false b ns ts e x h q = position-wf b ts e x h q
 
-pub place-wf : (k : Bool) (bs : List Base) (n : ℕ) (s : Seg) (x : Placed) → okSeg s ≡ true → readPlace k bs n s ≡ ok x → (wfPlace k (unplaced x) ≡ true) × (n < 32)
-place-wf k bs n (seg ts e) x h q =
+pub place-wf : (k : Bool) (bs : List Base) (n : ℕ) (ns : List Name) (s : Seg) (x : Placed) → okSeg s ≡ true → readPlace k bs n ns s ≡ ok x → (wfPlace k (unplaced x) ≡ true) × (n < 32)
+place-wf k bs n ns (seg ts e) x h q =
     guard-ok (ltb n 32) 15 (first ts e) _ x q
-    (λ y q′. guard-ok (Bool·beq k (isCut (cutAt equals ts))) 9 (first ts e) _ x q′ (λ z q″. (place1-wf k _ ts e x h q″, ltb-true n 32 y)))
+    (λ y q′. guard-ok (Bool·beq k (isCut (cutAt equals ts))) 9 (first ts e) _ x q′ (λ z q″. (place1-wf k _ ns ts e x h q″, ltb-true n 32 y)))
 
 pub record PlacesWf (k : Bool) (n : ℕ) (ss : List Seg) (xs : List Placed) : Type 0 where
   pub fine : all (wfPlace k) (map unplaced xs) ≡ true
   pub same : length xs ≡ length ss
   pub fit : n ≤ 32 → n + length xs ≤ 32
 
-pub places-wf : (k : Bool) (bs : List Base) (n : ℕ) (ss : List Seg) (xs : List Placed) → all okSeg ss ≡ true → readPlaces k bs n ss ≡ ok xs → PlacesWf k n ss xs
-places-wf k bs n [] xs h q = rw (← (ok-inj q)) (record { fine = refl; same = refl; fit = λ z. omega arith })
-places-wf k bs n (s ∷ ss) xs h q =
-    bind-ok (readPlace k bs n s) (λ x. mapR (λ xs. x ∷ xs) (readPlaces k bs (suc n) ss)) xs q
+pub places-wf : (k : Bool) (bs : List Base) (n : ℕ) (ns : List Name) (ss : List Seg) (xs : List Placed) → all okSeg ss ≡ true → readPlaces k bs n ns ss ≡ ok xs → PlacesWf k n ss xs
+places-wf k bs n ns [] xs h q = rw (← (ok-inj q)) (record { fine = refl; same = refl; fit = λ z. omega arith })
+places-wf k bs n ns (s ∷ ss) xs h q =
+    bind-ok (readPlace k bs n ns s) _ xs q
     (λ x a q′.
-    map-ok (λ xs. x ∷ xs) (readPlaces k bs (suc n) ss) xs q′
+    map-ok (λ xs. x ∷ xs) (readPlaces k bs (suc n) (placeName (unplaced x) ∷ ns) ss) xs q′
     (λ xs′ a′ r.
-    let p : (wfPlace k (unplaced x) ≡ true) × (n < 32) = place-wf k bs n s x (and-l (okSeg s) (all okSeg ss) h) a in
-    let ih : PlacesWf k (suc n) ss xs′ = places-wf k bs (suc n) ss xs′ (and-r (okSeg s) (all okSeg ss) h) a′ in
+    let p : (wfPlace k (unplaced x) ≡ true) × (n < 32) = place-wf k bs n ns s x (and-l (okSeg s) (all okSeg ss) h) a in
+    let ih : PlacesWf k (suc n) ss xs′ = places-wf k bs (suc n) (placeName (unplaced x) ∷ ns) ss xs′ (and-r (okSeg s) (all okSeg ss) h) a′ in
     rw (← r) (record { fine = rw (p .0, ih .fine); same = ap suc (ih .same); fit = λ z. omega (arith, ih .fit (p .1), p .1) })))
+
+-- ---- names are new
+
+pub named-free : (b : Base) (ns : List Name) (c : Cut) (e : ℕ) (x : Placed) → readNamed b ns c e ≡ ok x → not (any (sameName (placeName (unplaced x))) ns) ≡ true
+named-free b ns uncut e x k = ok≢bad k
+named-free b ns (cut nm q ts) e x k =
+    bind-ok (pieces 10 isIdentifier isPiece 3 true nm q) _ x k
+    (λ ws a k0.
+    guard-ok (not (any (sameName ws) ns)) 21 (first nm q) _ x k0
+    (λ f k′. map-ok (λ v. placed (first ts e) (place b ws v)) (readValue b ts e) x k′ (λ v c r. rw (← r) f)))
+
+pub place1-free : (k : Bool) (b : Base) (ns : List Name) (ts : List Token) (e : ℕ) (x : Placed) → readOfKind k b ns ts e ≡ ok x → freeOf k ns (placeName (unplaced x)) ≡ true
+place1-free true b ns ts e x q = named-free b ns (cutAt equals ts) e x q
+place1-free false b ns ts e x q = refl
+
+pub place-free : (k : Bool) (bs : List Base) (n : ℕ) (ns : List Name) (s : Seg) (x : Placed) → readPlace k bs n ns s ≡ ok x → freeOf k ns (placeName (unplaced x)) ≡ true
+place-free k bs n ns (seg ts e) x q =
+    guard-ok (ltb n 32) 15 (first ts e) _ x q
+    (λ y q′. guard-ok (Bool·beq k (isCut (cutAt equals ts))) 9 (first ts e) _ x q′ (λ z q″. place1-free k _ ns ts e x q″))
+
+pub places-fresh : (k : Bool) (bs : List Base) (n : ℕ) (ns : List Name) (ss : List Seg) (xs : List Placed) → readPlaces k bs n ns ss ≡ ok xs
+    → fresh k ns (map placeName (map unplaced xs)) ≡ true
+places-fresh k bs n ns [] xs q = rw (← (ok-inj q))
+places-fresh k bs n ns (s ∷ ss) xs q =
+    bind-ok (readPlace k bs n ns s) _ xs q
+    (λ x a q′.
+    map-ok (λ xs. x ∷ xs) (readPlaces k bs (suc n) (placeName (unplaced x) ∷ ns) ss) xs q′
+    (λ xs′ a′ r. rw (← r) (rw (place-free k bs n ns s x a) (places-fresh k bs (suc n) (placeName (unplaced x) ∷ ns) ss xs′ a′))))
 
 -- ---- blocks
 
@@ -218,11 +249,13 @@ pub record BlockWf (n : ℕ) (x : PlacedBlock) : Type 0 where
 
 pub block-wf : (bs : List Base) (n : ℕ) (ss : List Seg) (x : PlacedBlock) → all okSeg ss ≡ true → isNil ss ≡ false → readBlock bs n ss ≡ ok x → BlockWf n x
 block-wf bs n ss x h hn q =
-    map-ok (λ ps. placedBlock (kindOf ss) ps) (readPlaces (kindOf ss) bs n ss) x q
+    map-ok (λ ps. placedBlock (kindOf ss) ps) (readPlaces (kindOf ss) bs n [] ss) x q
     (λ ps a r.
-    let p : PlacesWf (kindOf ss) n ss ps = places-wf (kindOf ss) bs n ss ps h a in
+    let p : PlacesWf (kindOf ss) n ss ps = places-wf (kindOf ss) bs n [] ss ps h a in
+    let once : not (kindOf ss) || namesDiffer (map placeName (map unplaced ps)) ≡ true =
+    names-fresh (kindOf ss) (map placeName (map unplaced ps)) (places-fresh (kindOf ss) bs n [] ss ps a) in
     let some′ : isNil (map unplaced ps) ≡ false = nil-map unplaced ps ∙ some-length ps ss (p .same) hn in
-    rw (← r) (record { fine = rw (some′, p .fine); fit = p .fit; same = sym (length-map ps unplaced) }))
+    rw (← r) (record { fine = block-of (kindOf ss) (map unplaced ps) some′ (p .fine) once; fit = p .fit; same = sym (length-map ps unplaced) }))
 
 pub record BlocksWf (m n : ℕ) (xs : List PlacedBlock) : Type 0 where
   pub fine : all wfBlock (map blockOf xs) ≡ true

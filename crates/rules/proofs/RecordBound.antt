@@ -14,7 +14,7 @@ use Rattle.laws.specs.Lists.{all}
 use Rattle.rules.specs.Refusals.{mostWord, mostString, moreOfCode, moreOfName, mostBlocks, mostPlaces, mostLeading, mostElements, mostOrders}
 use Rattle.rules.specs.Characters.{byte}
 use Rattle.rules.specs.Units.{Base, keys, letter, Unit, num, keyed, identifier, symbolic, text, isIdentifier}
-use Rattle.rules.specs.Commands.{Element, single, range, Place, place, Block, block, Command, command, allPlaces, leading, terms, sum, mult, valueCount, placeCount, isPiece}
+use Rattle.rules.specs.Commands.{Name, Element, single, range, Place, place, Block, block, Command, command, allPlaces, leading, terms, sum, mult, valueCount, placeCount, isPiece}
 use Rattle.rules.specs.WellFormed.{wfUnit, wfElement, wfValue, short, wfPieces, wfPlace, wfBlock, wellFormed}
 use Rattle.rules.specs.Records.{field, fourBytes, unitField, elementFields, many, placeFields, blockFields, fieldBytes, encode}
 use Rattle.rules.proofs.CommandBack.{c-code, c-few, c-blocks, c-places, c-count, w-most}
@@ -306,17 +306,22 @@ record-bound c h = omega (arith, record-size c h)
 abbrev longPiece : List ℕ
 longPiece = replicate mostWord (byte "A")
 
--- a named place with so many elements of the longest strings
-abbrev longPlace : ℕ → Place
-longPlace n =
+-- the longest name; the i-th ends with the i-th letter
+abbrev longName : ℕ → Name
+longName i = replicate moreOfName longPiece ++ ((replicate (mostWord - 1) (byte "A") ++ ((byte "A" + i) ∷ [])) ∷ [])
+
+-- named places with so many elements of the longest strings, their names from the i-th on
+abbrev longPlaces : ℕ → List ℕ → List Place
+longPlaces i [] = []
+longPlaces i (n ∷ ns) =
     let s : Unit = text (replicate mostString (byte "A")) in
-    place keys (replicate (moreOfName + 1) longPiece) (replicate n (single (replicate mostLeading s) s))
+    place keys (longName i) (replicate n (single (replicate mostLeading s) s)) ∷ longPlaces (suc i) ns
 
 -- 8 blocks, 25 places in the first and one in each other, with 64, 64 and 15 elements and then one to a place
 abbrev pub longest : Command
 longest =
     command (replicate (moreOfCode + 1) longPiece)
-    (block true (map longPlace (mostElements ∷ mostElements ∷ 15 ∷ replicate 22 1)) ∷ replicate 7 (block true (longPlace 1 ∷ [])))
+    (block true (longPlaces 0 (mostElements ∷ mostElements ∷ 15 ∷ replicate 22 1)) ∷ replicate 7 (block true (longPlaces 0 (1 ∷ []))))
 
 pub longest-well-formed : wellFormed longest ≡ true
 longest-well-formed = refl

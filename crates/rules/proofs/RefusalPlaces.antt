@@ -15,9 +15,9 @@ use Rattle.rules.specs.Refusals.{Res, ok, bad, _>>=_, mapR, guard}
 use Rattle.rules.specs.Characters.{isWordChar, isEffector, isPermitted}
 use Rattle.rules.specs.Tokens.{Sep, ampamp-, ampamp, amp-, amp, plusplus, dash, comma, colon, equals, semi, sepCode, Lex, word, str, sep, Token, at, posOf, lexOf, State, idle, inWord, inPlus, oneAmp, twoAmp, slash, comment, star, inStr, quote, wordMost, wordToken, strToken, wordTokens, flush, andThen, Step, stay, emit, fresh, after, end, step, next, run, firstOff}
 use Rattle.rules.specs.Units.{Radix, rD, Base, plain, baseOf, Unit, num, keyed, identifier, symbolic, text, numeral, limited, orElse, isIdentifier, isSymbolicName, named, withMark, readWord, readUnit}
-use Rattle.rules.specs.Commands.{Element, single, range, place, leading, placeCount, valueCount, isSep, first, Seg, seg, consHead, split, Cut, cut, uncut, consCut, cutAt, isCut, piece, pieces, isPiece, Command}
+use Rattle.rules.specs.Commands.{Name, Element, single, range, place, placeName, sameName, leading, placeCount, valueCount, isSep, first, Seg, seg, consHead, split, Cut, cut, uncut, consCut, cutAt, isCut, piece, pieces, isPiece, Command}
 use Rattle.rules.specs.Groups.{Join, join, Want, unitAfter, joiner, isUnit, joinerOf, alternate, readUnits, Group, group, Collected, collected, collectOne, beginsJ, collect, groupsOf, Arg, arg, consArg, fullArg, sepAt, noMore, incOf, endOf, increment, ends, upper, firstArg, laterArg, later, groupPos, laterElements, elements, readValue}
-use Rattle.rules.specs.Reading.{Placed, placed, readPosition, readNamed, readOfKind, readPlace, readPlaces, kindOf, PlacedBlock, placedBlock, blockOf, blockSize, readBlock, readBlocks, running, runningBlocks, readSegs, readCut, readLetters}
+use Rattle.rules.specs.Reading.{Placed, placed, unplaced, readPosition, readNamed, readOfKind, readPlace, readPlaces, kindOf, PlacedBlock, placedBlock, blockOf, blockSize, readBlock, readBlocks, running, runningBlocks, readSegs, readCut, readLetters}
 
 -- ---- a property of every outcome
 
@@ -181,7 +181,7 @@ module _ (m : ℕ) where
 
 -- the reader's numbers that have a byte of the text for their place: all but 1, 2, 6 and 17
 abbrev pub ofText : List ℕ
-ofText = 3 ∷ 4 ∷ 5 ∷ 7 ∷ 8 ∷ 9 ∷ 10 ∷ 11 ∷ 12 ∷ 13 ∷ 14 ∷ 15 ∷ 16 ∷ []
+ofText = 3 ∷ 4 ∷ 5 ∷ 7 ∷ 8 ∷ 9 ∷ 10 ∷ 11 ∷ 12 ∷ 13 ∷ 14 ∷ 15 ∷ 16 ∷ 21 ∷ []
 
 module _ (P : ℕ → ℕ → Type 0) (m : ℕ) (hit : (n p : ℕ) → anyOf ofText n ≡ true → p < m → P n p) where
   -- 3
@@ -408,41 +408,46 @@ module _ (P : ℕ → ℕ → Type 0) (m : ℕ) (hit : (n p : ℕ) → anyOf ofT
       (λ v y.
       guard-comes P Whatever (leb (valueCount v) 4096) 16 (first ts e) (λ _. ok v) (λ _. hit 16 (first ts e) refl (first-in m ts e h k)) (λ _. tt))))
 
-  -- 9, 10, 15: places and blocks
+  -- 9, 10, 15, 21: places and blocks
   pub position-comes : (b : Base) (ts : List Token) (e : ℕ) → Before m ts → e < m → Comes P (PlacedIn m) (readPosition b ts e)
   position-comes b [] e h k = k
   position-comes b (t ∷ ts) e h k =
       map-comes P Whatever (PlacedIn m) (λ v. placed (posOf t) (place b [] v)) (readValue b (t ∷ ts) e) (value-comes b (t ∷ ts) e h k) (λ v z. h .0)
 
-  pub named-place-comes : (b : Base) (c : Cut) (e : ℕ) → CutIn m c → e < m → Comes P (PlacedIn m) (readNamed b c e)
-  named-place-comes b uncut e h k = hit 10 e refl k
-  named-place-comes b (cut nm q ts) e h k =
-      bind-comes P Whatever (PlacedIn m) (pieces 10 isIdentifier isPiece 3 true nm q) (λ ws. mapR (λ v. placed (first ts e) (place b ws v)) (readValue b ts e))
+  pub named-place-comes : (b : Base) (ns : List Name) (c : Cut) (e : ℕ) → CutIn m c → e < m → Comes P (PlacedIn m) (readNamed b ns c e)
+  named-place-comes b ns uncut e h k = hit 10 e refl k
+  named-place-comes b ns (cut nm q ts) e h k =
+      bind-comes P Whatever (PlacedIn m) (pieces 10 isIdentifier isPiece 3 true nm q) _
       (pieces-come 10 refl isIdentifier isPiece 3 true nm q (h .0) (h .1))
       (λ ws y.
-      map-comes P Whatever (PlacedIn m) (λ v. placed (first ts e) (place b ws v)) (readValue b ts e) (value-comes b ts e (h .2) k) (λ v z. first-in m ts e (h .2) k))
+      guard-comes P (PlacedIn m) (not (any (sameName ws) ns)) 21 (first nm q) _ (λ _. hit 21 (first nm q) refl (first-in m nm q (h .0) (h .1)))
+      (λ _.
+      map-comes P Whatever (PlacedIn m) (λ v. placed (first ts e) (place b ws v)) (readValue b ts e) (value-comes b ts e (h .2) k) (λ v z. first-in m ts e (h .2) k)))
 
-  pub kind-comes : (k : Bool) (b : Base) (ts : List Token) (e : ℕ) → Before m ts → e < m → Comes P (PlacedIn m) (readOfKind k b ts e)
-  kind-comes true b ts e h i = named-place-comes b (cutAt equals ts) e (cut-in m equals ts h) i
-  kind-comes false b ts e h i = position-comes b ts e h i
+  pub kind-comes : (k : Bool) (b : Base) (ns : List Name) (ts : List Token) (e : ℕ) → Before m ts → e < m → Comes P (PlacedIn m) (readOfKind k b ns ts e)
+  kind-comes true b ns ts e h i = named-place-comes b ns (cutAt equals ts) e (cut-in m equals ts h) i
+  kind-comes false b ns ts e h i = position-comes b ts e h i
 
-  pub place-comes : (k : Bool) (bs : List Base) (n : ℕ) (ts : List Token) (e : ℕ) → Before m ts → e < m → Comes P (PlacedIn m) (readPlace k bs n (seg ts e))
-  place-comes k bs n ts e h i =
+  pub place-comes : (k : Bool) (bs : List Base) (n : ℕ) (ns : List Name) (ts : List Token) (e : ℕ) → Before m ts → e < m
+      → Comes P (PlacedIn m) (readPlace k bs n ns (seg ts e))
+  place-comes k bs n ns ts e h i =
       guard-comes P (PlacedIn m) (ltb n 32) 15 (first ts e) _ (λ _. hit 15 (first ts e) refl (first-in m ts e h i))
       (λ _.
       guard-comes P (PlacedIn m) (Bool·beq k (isCut (cutAt equals ts))) 9 (first ts e) _ (λ _. hit 9 (first ts e) refl (first-in m ts e h i))
-      (λ _. kind-comes k (getD bs n (plain rD)) ts e h i))
+      (λ _. kind-comes k (getD bs n (plain rD)) ns ts e h i))
 
-  pub places-come : (k : Bool) (bs : List Base) (n : ℕ) (ss : List Seg) → SegsIn m ss → Comes P (AllPlaced m) (readPlaces k bs n ss)
-  places-come k bs n [] h = tt
-  places-come k bs n (seg ts e ∷ ss) h =
-      bind-comes P (PlacedIn m) (AllPlaced m) (readPlace k bs n (seg ts e)) (λ x. mapR (λ xs. x ∷ xs) (readPlaces k bs (suc n) ss))
-      (place-comes k bs n ts e (h .0) (h .1))
-      (λ x y. map-comes P (AllPlaced m) (AllPlaced m) (λ xs. x ∷ xs) (readPlaces k bs (suc n) ss) (places-come k bs (suc n) ss (h .2)) (λ xs z. (y, z)))
+  pub places-come : (k : Bool) (bs : List Base) (n : ℕ) (ns : List Name) (ss : List Seg) → SegsIn m ss → Comes P (AllPlaced m) (readPlaces k bs n ns ss)
+  places-come k bs n ns [] h = tt
+  places-come k bs n ns (seg ts e ∷ ss) h =
+      bind-comes P (PlacedIn m) (AllPlaced m) (readPlace k bs n ns (seg ts e)) _
+      (place-comes k bs n ns ts e (h .0) (h .1))
+      (λ x y.
+      map-comes P (AllPlaced m) (AllPlaced m) (λ xs. x ∷ xs) (readPlaces k bs (suc n) (placeName (unplaced x) ∷ ns) ss)
+      (places-come k bs (suc n) (placeName (unplaced x) ∷ ns) ss (h .2)) (λ xs z. (y, z)))
 
   pub block-comes : (bs : List Base) (n : ℕ) (ss : List Seg) → SegsIn m ss → Comes P (BlockIn m) (readBlock bs n ss)
   block-comes bs n ss h =
-      map-comes P (AllPlaced m) (BlockIn m) (λ ps. placedBlock (kindOf ss) ps) (readPlaces (kindOf ss) bs n ss) (places-come (kindOf ss) bs n ss h) (λ ps z. z)
+      map-comes P (AllPlaced m) (BlockIn m) (λ ps. placedBlock (kindOf ss) ps) (readPlaces (kindOf ss) bs n [] ss) (places-come (kindOf ss) bs n [] ss h) (λ ps z. z)
 
   pub cons-block-in : (b : PlacedBlock) (bs : List PlacedBlock) → BlockIn m b → BlocksIn m bs → BlocksIn m (b ∷ bs)
   cons-block-in (placedBlock k ps) bs h i = (h, i)

@@ -1,9 +1,10 @@
 -- Document 01, "Command, block, place": the command as a tree, its numbers of arguments, and tokens cut at separators (8, 10).
 use Prim.Native.Nat.{ℕ, zero, suc, _+_, _*_, _-_, _/_}
-use mathlib.Core.Bool.{Bool, true, false, cond, _||_}
+use mathlib.Core.Bool.{Bool, true, false, cond, _&&_, _||_}
 use mathlib.Core.List.{List, [], _∷_, _++_, map}
 use mathlib.Core.Option.{Option, none, some}
 use lib.Dec.{eqb}
+use Rattle.laws.specs.Lists.{eqL}
 use Rattle.rules.specs.Refusals.{Res, ok, bad, mapR}
 use Rattle.rules.specs.Characters.{isDigit}
 use Rattle.rules.specs.Tokens.{Sep, dash, sepCode, Lex, word, str, sep, Token, posOf, lexOf}
@@ -39,6 +40,20 @@ lastUnit (range l r lo up inc) = num r 0 lo
 
 abbrev pub placeBase : Place → Base
 placeBase (place b nm v) = b
+
+-- the pieces of a name
+abbrev pub Name : Type 0
+Name = List (List ℕ)
+
+abbrev pub placeName : Place → Name
+placeName (place b nm v) = nm
+
+-- M-102: "all pieces equal byte for byte"
+abbrev pub sameName : Name → Name → Bool
+sameName [] [] = true
+sameName [] (y ∷ ys) = false
+sameName (x ∷ xs) [] = false
+sameName (x ∷ xs) (y ∷ ys) = eqL x y && sameName xs ys
 
 abbrev pub placesOf : Block → List Place
 placesOf (block k ps) = ps

@@ -1,17 +1,17 @@
 -- Document 01, "The record": "A record is well formed if it has this order, its units would be read as that kind under their place's base, and all
 -- rules and limits here hold (text length apart)." First on the tree, then on bytes (18).
 use Prim.Native.Nat.{ℕ, zero, suc}
-use mathlib.Core.Bool.{Bool, true, false, _&&_, not}
+use mathlib.Core.Bool.{Bool, true, false, _&&_, _||_, not}
 use mathlib.Core.List.{List, [], _∷_, map}
 use mathlib.Core.Option.{Option, none, some}
 use lib.Dec.{leb, eqb}
 use lib.ListN.{length}
-use Rattle.laws.specs.Lists.{all, eqL, isNil}
+use Rattle.laws.specs.Lists.{all, any, eqL, isNil}
 use Rattle.rules.specs.Refusals.{Res, ok, bad, _>>=_, guard, notWellFormed, mostWord, mostString, moreOfCode, moreOfName, mostBlocks, mostPlaces, mostLeading, mostElements, mostArguments, mostOrders, mostValue, mostFraction}
 use Rattle.rules.specs.Characters.{isPermitted}
 use Rattle.rules.specs.Tokens.{wordChars}
 use Rattle.rules.specs.Units.{Radix, rD, rH, rO, rB, Base, plain, Unit, num, keyed, identifier, symbolic, text, isKey, runOf, numeral, isIdentifier, isSymbolicName, allowed}
-use Rattle.rules.specs.Commands.{Element, single, range, Place, place, Block, block, Command, command, leading, lastUnit, allPlaces, mult, valueCount, placeCount, isPiece}
+use Rattle.rules.specs.Commands.{Element, single, range, Name, Place, place, placeName, sameName, Block, block, Command, command, leading, lastUnit, allPlaces, mult, valueCount, placeCount, isPiece}
 use Rattle.rules.specs.Records.{encode, decode}
 
 -- ---- units: "its units would be read as that kind under their place's base"
@@ -74,9 +74,15 @@ abbrev pub wfPlace : Bool → Place → Bool
 wfPlace true (place b nm v) = wfPieces isPiece moreOfName nm && not (isNil v) && wfValue b v
 wfPlace false (place b nm v) = isNil nm && wfValue b v
 
--- "Nothing after `:` is one omitted place.": a block has a place; "all its places must agree"
+-- M-102: "a name that already stands in its block": no name stands among those behind it
+abbrev pub namesDiffer : List Name → Bool
+namesDiffer [] = true
+namesDiffer (nm ∷ ns) = not (any (sameName nm) ns) && namesDiffer ns
+
+-- "Nothing after `:` is one omitted place.": a block has a place; "all its places must agree"; M-102: "A record with such a pair is no longer
+-- well formed."
 abbrev pub wfBlock : Block → Bool
-wfBlock (block k ps) = not (isNil ps) && all (wfPlace k) ps
+wfBlock (block k ps) = not (isNil ps) && all (wfPlace k) ps && (not k || namesDiffer (map placeName ps))
 
 -- "1 to 3 identifiers"; at most 8 blocks, 32 places, 65,535 orders
 abbrev pub wellFormed : Command → Bool

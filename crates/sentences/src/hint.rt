@@ -7,12 +7,14 @@ use tokens::Filled;
 // The refusal of a word or a string that is too long, and of other limits.
 const TOO_MANY: u8 = 15;
 
-// Keys of the catalogue's phrases: of a command and of a record that is too long (2), and of a record (18).
+// Keys of the catalogue's phrases: of a command and of a record that is too long (2), of a record (18), and of a name (21).
 const SHORTER: u8 = b's';
 
 const LONG_RECORD: u8 = b'r';
 
 const RECORD: u8 = b'r';
+
+const ONCE: u8 = b'o';
 
 // Writes what is told of a line.
 pub fn write_line_hint(fd: i32, line: &[u8], bases: &[u8], number: u8, place: u32) -> bool {
@@ -45,6 +47,7 @@ fn text_hint(line: &[u8], bases: &[u8], number: u8, place: usize) -> Hint {
         5 => text_hints::where_stray(line, place),
         18 => phrases::plain(RECORD),
         19 => text_hints::which_orders(place),
+        21 => phrases::plain(ONCE),
         _ => phrases::plain(phrases::UNKNOWN),
     }
 }

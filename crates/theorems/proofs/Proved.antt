@@ -10,6 +10,7 @@ use Rattle.rules.proofs.DirectIsList.{count-is, direct-is}
 use Rattle.rules.proofs.EncodeDecode.{record-is, record-of}
 use Rattle.rules.proofs.FromTheList.{reader-list, printer-list, order-list, count-list}
 use Rattle.rules.proofs.Lines.{lines, example-is, at-limits}
+use Rattle.rules.proofs.NamesDiffer.{names-differ}
 use Rattle.rules.proofs.NeverLonger.{never-longer}
 use Rattle.rules.proofs.OrderFits.{order-fits}
 use Rattle.rules.proofs.OrderWellFormed.{order-wf}
@@ -22,7 +23,7 @@ use Rattle.rules.proofs.Tables.{classes-are, ranges-are, digits-are, keyed-are,
 use Rattle.rules.proofs.WellFormedIsReadable.{well-formed-is-readable}
 use Rattle.rules.specs.Orders.{orderAt}
 use Rattle.grammar.proofs.Exact.{sound, complete, unique, refused}
-use Rattle.theorems.specs.Demands.{Twelve, Example77, FromTheList, AnswersFit, Decided, CountDecided, Exact, Unique, Refused, ReadSound, WellFormedIsReadable, RoundTrip, NeverLonger, DecodeEncode, EncodeDecode, RecordBound, DirectIsList, CountIsLength, Past, OrderWellFormed, OrderFits, SoleOrder, Accepts, ReadWithoutRoom, RefusedForRoomAlone, PrintsGivenRoom, PrintWithoutRoom, PrintThenRead, ReadThenPrint, OrdersGivenRoom, OrdersAreListed, SoleOrderOnBytes, ClassesOfBytes, RangesOfBytes, DigitsOfBases, KeyedDigits, BaseLetters, WordsByRule, SeparatorTexts, TableOfTags, RefusalNumbers, Limits, CellsOfRefusals, CallRows}
+use Rattle.theorems.specs.Demands.{Twelve, Example77, FromTheList, AnswersFit, Decided, CountDecided, Exact, Unique, Refused, ReadSound, NamesDiffer, WellFormedIsReadable, RoundTrip, NeverLonger, DecodeEncode, EncodeDecode, RecordBound, DirectIsList, CountIsLength, Past, OrderWellFormed, OrderFits, SoleOrder, Accepts, ReadWithoutRoom, RefusedForRoomAlone, PrintsGivenRoom, PrintWithoutRoom, PrintThenRead, ReadThenPrint, OrdersGivenRoom, OrdersAreListed, SoleOrderOnBytes, ClassesOfBytes, RangesOfBytes, DigitsOfBases, KeyedDigits, BaseLetters, WordsByRule, SeparatorTexts, TableOfTags, RefusalNumbers, Limits, CellsOfRefusals, CallRows}
 use Rattle.theorems.proofs.Calls
 
 twelve-lines : Twelve
@@ -54,6 +55,9 @@ refused-has-none = refused
 
 read-sound : ReadSound
 read-sound = read-wf
+
+names-once : NamesDiffer
+names-once = names-differ
 
 readable : WellFormedIsReadable
 readable = well-formed-is-readable

@@ -3,14 +3,14 @@
 use Prim.Native.Nat.{ℕ, _≤_, _<_}
 use mathlib.Core.Path.{_≡_}
 use mathlib.Core.Bool.{Bool, true, false, _&&_, not}
-use mathlib.Core.List.{List, [], _∷_, map}
+use mathlib.Core.List.{List, [], _∷_, _++_, map}
 use mathlib.Core.Option.{some}
 use lib.ListN.{length, getD}
 use Rattle.rules.specs.declared.Answer.{Answer}
-use Rattle.rules.specs.Refusals.{Res, ok, bad, mapR, wrongLetter, tooLong, notPermitted, unclosed, noToken, noEnd, afterEnd, wrongCode, kindDiffers, wrongName, wrongShape, unreadable, tooBig, groupBroken, tooMany, tooManyOrders, noRoom, notWellFormed, noSuchOrder, mostLetters, mostText, mostWord, mostPrefixed, mostString, moreOfCode, moreOfName, mostBlocks, mostPlaces, mostLeading, mostElements, mostArguments, mostOrders, mostValue, mostFraction}
+use Rattle.rules.specs.Refusals.{Res, ok, bad, mapR, wrongLetter, tooLong, notPermitted, unclosed, noToken, noEnd, afterEnd, wrongCode, kindDiffers, wrongName, wrongShape, unreadable, tooBig, groupBroken, tooMany, tooManyOrders, noRoom, notWellFormed, noSuchOrder, nameTwice, mostLetters, mostText, mostWord, mostPrefixed, mostString, moreOfCode, moreOfName, mostBlocks, mostPlaces, mostLeading, mostElements, mostArguments, mostOrders, mostValue, mostFraction}
 use Rattle.rules.specs.Characters.{bytes, isLetter, isDigit, isAlnum, isEffector, isPermitted, isWordChar, isSymbolChar}
 use Rattle.rules.specs.Units.{rD, rH, rO, rB, letter, baseOf, radixAt, baseAt, isKey}
-use Rattle.rules.specs.Commands.{Command}
+use Rattle.rules.specs.Commands.{Place, Block, block, Command, command, placeName}
 use Rattle.rules.specs.Reading.{read, readAny}
 use Rattle.rules.specs.Records.{encode, decode, bases}
 use Rattle.rules.specs.WellFormed.{wellFormed, recordOf}
@@ -78,6 +78,13 @@ Refused = (letters text : List ℕ) (n p : ℕ) (c : Command) → read letters t
 -- what read accepts is well formed
 abbrev pub ReadSound : Type 0
 ReadSound = (letters text : List ℕ) (c : Command) → read letters text ≡ ok c → wellFormed c ≡ true
+
+-- M-102: "Refuse a name that already stands in its block, all pieces equal byte for byte."
+abbrev pub NamesDiffer : Type 0
+NamesDiffer =
+    (letters text : List ℕ) (code : List (List ℕ)) (before : List Block) (xs : List Place) (p : Place) (ys : List Place) (q : Place) (zs : List Place)
+    (behind : List Block) → read letters text ≡ ok (command code (before ++ (block true (xs ++ (p ∷ (ys ++ (q ∷ zs)))) ∷ behind)))
+    → placeName p ≡ placeName q → ⊥
 
 -- "all rules and limits here hold (text length apart)": a command is well formed exactly where its printed text, length apart, is read back to it
 abbrev pub WellFormedIsReadable : Type 0
@@ -257,12 +264,12 @@ TableOfTags =
 
 -- ======== witnesses: refusals and calls
 
--- "Refusal numbers", in the order of the paper's tables
+-- "Refusal numbers", in the order of the paper's tables, and document 02's behind them
 abbrev pub RefusalNumbers : Type 0
 RefusalNumbers =
     (wrongLetter ∷ tooLong ∷ notPermitted ∷ unclosed ∷ noToken ∷ noEnd ∷ afterEnd ∷ wrongCode ∷ kindDiffers ∷ wrongName ∷ wrongShape ∷ unreadable ∷ tooBig
-    ∷ groupBroken ∷ tooMany ∷ tooManyOrders ∷ noRoom ∷ notWellFormed ∷ noSuchOrder ∷ [])
-    ≡ 1 ∷ 2 ∷ 3 ∷ 4 ∷ 5 ∷ 6 ∷ 7 ∷ 8 ∷ 9 ∷ 10 ∷ 11 ∷ 12 ∷ 13 ∷ 14 ∷ 15 ∷ 16 ∷ 17 ∷ 18 ∷ 19 ∷ []
+    ∷ groupBroken ∷ tooMany ∷ tooManyOrders ∷ noRoom ∷ notWellFormed ∷ noSuchOrder ∷ nameTwice ∷ [])
+    ≡ 1 ∷ 2 ∷ 3 ∷ 4 ∷ 5 ∷ 6 ∷ 7 ∷ 8 ∷ 9 ∷ 10 ∷ 11 ∷ 12 ∷ 13 ∷ 14 ∷ 15 ∷ 16 ∷ 17 ∷ 18 ∷ 19 ∷ 21 ∷ []
 
 -- the limits by name, and for each the last line that is read and the first that is refused
 abbrev pub Limits : Type 0

@@ -33,6 +33,10 @@ pub many-map : {A : Type 0} (f : A → Field) (as′ : List A) → many (λ a. f
 many-map f [] = refl
 many-map f (a ∷ as′) = ap (λ (l : List Field). f a ∷ l) (many-map f as′)
 
+pub many-append : {A : Type 0} (g : A → List Field) (xs ys : List A) → many g (xs ++ ys) ≡ many g xs ++ many g ys
+many-append g [] ys = refl
+many-append g (x ∷ xs) ys = ap (λ (fs : List Field). g x ++ fs) (many-append g xs ys) ∙ sym (append-assoc (g x) (many g xs) (many g ys))
+
 module _ {S A : Type 0} (starts : ℕ → Bool) (one : S → List ℕ → Read A) (after : S → A → S) where
   -- ---- the turns of a loop: `done` was read, and the rest is read from here
 

@@ -2,7 +2,8 @@
 //!
 //! `bench [BATCHES]`: each row times one call on both sides. Batches of calls alternate
 //! between library and model; a row shows the median batch of each side. Buffers are as large
-//! as any answer needs and are not cleared between calls.
+//! as any answer needs and are not cleared between calls. A row begins with the name of its
+//! command.
 //!
 //! `bench rows` names the rows; `bench run ROW SIDE CALLS` makes calls of one side of a row and
 //! nothing else, for the script `instructions`.
@@ -14,6 +15,15 @@ use std::time::{Duration, Instant};
 
 /// How long one batch runs, about.
 const BATCH: Duration = Duration::from_micros(400);
+
+/// The commands that are timed, each under the name that its rows have.
+const COMMANDS: [(&str, &str); 5] = [
+    ("short", SHORT),
+    ("middle", MIDDLE),
+    ("long", LONG),
+    ("32 names", NAMES),
+    ("wide", WIDE),
+];
 
 const SHORT: &str = "SET-ATT:LIN=7-1&&-3,LEV=3.5;";
 
@@ -31,15 +41,25 @@ const LONG: &str = concat!(
     "K=0&&0,L=5,M=6,P=K'*21#,Q=EAST-NORTH-4,R=1-2-3-4,S=3;",
 );
 
+/// As many names in one block as there may be.
+const NAMES: &str = concat!(
+    "CHANGE-TRUNK:DN=5551,LIN=7-1,LEV=3.5,CAT=H'1F,DIR-1=12,DIR-2=34,ROUTE=9,GRP=4,",
+    "OWNER=WEST,TIME=06H,THR=10%,PRIO=1,GAIN=2.25,TONE=ON,RING=5,LAMP=OFF,",
+    "ATT-1=0.5,ATT-2=1.5,ATT-3=2,RATE=64,BAND=3,CHAN=17,PORT=8,SLOT=2,RACK=B,SHELF=3,",
+    "UNIT=6,STATUS=AUTO,ALARM=MINOR,TEST=NO,ID=42,NR=7;",
+);
+
+/// Few values with many orders: its first and its last order alone are timed.
 const WIDE: &str = "A:0&&4094,0&&15;";
 
-const HEAD: &str = "call    text  record      k";
+const HEAD: &str = "command  call    text  record      k";
 
 /// A call on one side: gives the answer's value.
 type Side<'a> = Box<dyn FnMut() -> u32 + 'a>;
 
 /// One row of the table.
 struct Row<'a> {
+    command: &'static str,
     call: &'static str,
     text: usize,
     record: usize,
@@ -117,30 +137,46 @@ fn run(row: &str, side: &str, calls: &str) -> ExitCode {
     ExitCode::SUCCESS
 }
 
-/// The commands that are timed, with their records.
-struct Commands(Vec<(&'static str, Vec<u8>)>);
+/// A command that is timed, with its record.
+struct Command {
+    name: &'static str,
+    text: &'static str,
+    record: Vec<u8>,
+}
+
+impl Command {
+    /// Its rows: every call, the first order and the last if that is another; of the wide one
+    /// the orders alone.
+    fn rows(&self) -> Vec<Row<'_>> {
+        let last = model::count(&self.record).map_or(0, u64::from) - 1;
+        let mut rows = Vec::new();
+        if self.text != WIDE {
+            rows.extend([read(self), print(self), count(self)]);
+        }
+        rows.push(order(self, 0));
+        if last > 0 {
+            rows.push(order(self, last));
+        }
+        rows
+    }
+}
+
+/// The commands that are timed.
+struct Commands(Vec<Command>);
 
 impl Commands {
     fn new() -> Commands {
-        Commands(
-            [SHORT, MIDDLE, LONG, WIDE]
-                .map(|text| (text, record_of(text)))
-                .into(),
-        )
+        let command = |(name, text)| Command {
+            name,
+            text,
+            record: record_of(text),
+        };
+        Commands(COMMANDS.map(command).into())
     }
 
-    /// Every row: all calls on the first three commands, the first and the last order of the last.
+    /// Every row.
     fn rows(&self) -> impl Iterator<Item = Row<'_>> {
-        self.0.iter().flat_map(|(text, record)| {
-            let last = model::count(record).map_or(0, u64::from) - 1;
-            let orders = [order(text, record, 0), order(text, record, last)];
-            let mut rows = Vec::new();
-            if *text != WIDE {
-                rows.extend([read(text, record), print(text, record), count(text, record)]);
-            }
-            rows.extend(orders);
-            rows
-        })
+        self.0.iter().flat_map(Command::rows)
     }
 }
 
@@ -156,14 +192,15 @@ fn record_of(text: &str) -> Vec<u8> {
     record
 }
 
-fn read<'a>(text: &'a str, record: &'a [u8]) -> Row<'a> {
-    let bytes = text.as_bytes();
+fn read(command: &Command) -> Row<'_> {
+    let bytes = command.text.as_bytes();
     let mut out = vec![0; mml::RECORD_MAX];
     let mut other = out.clone();
     Row {
+        command: command.name,
         call: "read",
-        text: text.len(),
-        record: record.len(),
+        text: bytes.len(),
+        record: command.record.len(),
         k: None,
         library: Box::new(move || {
             let answer = mml::read(black_box(bytes), b"", black_box(&mut out));
@@ -176,12 +213,14 @@ fn read<'a>(text: &'a str, record: &'a [u8]) -> Row<'a> {
     }
 }
 
-fn print<'a>(text: &'a str, record: &'a [u8]) -> Row<'a> {
+fn print(command: &Command) -> Row<'_> {
+    let record = &command.record[..];
     let mut out = vec![0; mml::TEXT_MAX];
     let mut other = out.clone();
     Row {
+        command: command.name,
         call: "print",
-        text: text.len(),
+        text: command.text.len(),
         record: record.len(),
         k: None,
         library: Box::new(move || {
@@ -195,10 +234,12 @@ fn print<'a>(text: &'a str, record: &'a [u8]) -> Row<'a> {
     }
 }
 
-fn count<'a>(text: &'a str, record: &'a [u8]) -> Row<'a> {
+fn count(command: &Command) -> Row<'_> {
+    let record = &command.record[..];
     Row {
+        command: command.name,
         call: "count",
-        text: text.len(),
+        text: command.text.len(),
         record: record.len(),
         k: None,
         library: Box::new(move || mml::count(black_box(record)).unwrap_or(0)),
@@ -206,12 +247,14 @@ fn count<'a>(text: &'a str, record: &'a [u8]) -> Row<'a> {
     }
 }
 
-fn order<'a>(text: &'a str, record: &'a [u8], k: u64) -> Row<'a> {
+fn order(command: &Command, k: u64) -> Row<'_> {
+    let record = &command.record[..];
     let mut out = vec![0; record.len()];
     let mut other = out.clone();
     Row {
+        command: command.name,
         call: "order",
-        text: text.len(),
+        text: command.text.len(),
         record: record.len(),
         k: Some(k),
         library: Box::new(move || {
@@ -230,8 +273,8 @@ impl Row<'_> {
     fn name(&self) -> String {
         let k = self.k.map_or(String::from("-"), |k| k.to_string());
         format!(
-            "{:<6} {:>5} {:>7} {:>6}",
-            self.call, self.text, self.record, k
+            "{:<8} {:<6} {:>5} {:>7} {:>6}",
+            self.command, self.call, self.text, self.record, k
         )
     }
 

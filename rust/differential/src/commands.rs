@@ -1,6 +1,7 @@
 //! Generated commands: built by the grammar, with wrong choices now and then, spaced out,
 //! commented, damaged, and stretched to the limits.
 
+use crate::names::{self, Name};
 use crate::random::Random;
 
 /// A command's text and base letters.
@@ -19,6 +20,7 @@ pub fn command(random: &mut Random) -> Command {
         wrong,
         bases: Vec::new(),
         tokens: Vec::new(),
+        names: Vec::new(),
         orders: 1,
     };
     maker.bases();
@@ -56,6 +58,8 @@ struct Maker<'r> {
     wrong: usize,
     bases: Vec<u8>,
     tokens: Vec<Token>,
+    /// The names that the block has so far.
+    names: Vec<Name>,
     /// The orders so far, to keep most commands within the limit.
     orders: u64,
 }
@@ -108,7 +112,8 @@ impl Maker<'_> {
             if self.errs() {
                 self.wrong_word();
             } else {
-                self.identifier();
+                let word = self.identifier();
+                self.bare(&word);
             }
         }
     }
@@ -183,6 +188,7 @@ impl Maker<'_> {
         let mut place = 0;
         for _ in 0..blocks {
             let named = self.random.one_in(2);
+            self.names.clear();
             let places = match self.random.below(40) {
                 0 => 32 - usize::min(place, 31),
                 1 => self.random.between(28, 34),
@@ -216,24 +222,58 @@ impl Maker<'_> {
     }
 
     fn name(&mut self) {
-        let mut pieces = self.random.pick(&[1, 1, 1, 2, 3, 4]);
-        if self.errs() {
-            pieces = self.random.pick(&[0, 5, 6]);
-        }
-        for piece in 0..pieces {
-            if piece > 0 {
+        let name = self.pieces_of_name();
+        for (n, piece) in name.iter().enumerate() {
+            if n > 0 {
                 self.hyphen();
             }
             if self.errs() {
                 self.wrong_word();
-            } else if piece > 0 && self.random.one_in(2) {
-                let length = self.random.pick(&[1, 1, 2, 3, 32]);
-                let digits = self.word_of(b"0123456789", length);
-                self.bare(&digits);
             } else {
-                self.identifier();
+                self.bare(piece);
             }
         }
+        self.names.push(name);
+    }
+
+    /// A name for the next place of the block: now and then one that the block has, most times
+    /// none of them, but often one that is like one of them.
+    fn pieces_of_name(&mut self) -> Name {
+        if !self.names.is_empty() {
+            let mut name = self.names[self.random.below(self.names.len())].clone();
+            if self.random.one_in(16 + 4 * self.names.len()) || self.errs() {
+                return name;
+            }
+            if !name.is_empty() && self.random.one_in(3) {
+                names::change(self.random, &mut name);
+                if !self.names.contains(&name) {
+                    return name;
+                }
+            }
+        }
+        loop {
+            let name = self.any_name();
+            if !self.names.contains(&name) {
+                return name;
+            }
+        }
+    }
+
+    fn any_name(&mut self) -> Name {
+        let mut pieces = self.random.pick(&[1, 1, 1, 2, 3, 4]);
+        if self.errs() {
+            pieces = self.random.pick(&[0, 5, 6]);
+        }
+        let mut name = Name::new();
+        for piece in 0..pieces {
+            if piece > 0 && self.random.one_in(2) {
+                let length = self.random.pick(&[1, 1, 2, 3, 32]);
+                name.push(self.word_of(b"0123456789", length));
+            } else {
+                name.push(self.identifier());
+            }
+        }
+        name
     }
 
     fn word_of(&mut self, characters: &[u8], length: usize) -> Vec<u8> {
@@ -250,13 +290,13 @@ impl Maker<'_> {
         }
     }
 
-    fn identifier(&mut self) {
+    fn identifier(&mut self) -> Vec<u8> {
         let length = self.length(32);
         let first: &[u8] = self.random.pick(&[b"ABCDEF", b"DHOBK", b"GXYZaz"]);
         let rest: &[u8] = self.random.pick(&[b"ABCDEF0123", b"XYZabz0189", b"A1"]);
         let mut word = vec![self.random.pick(first)];
         word.extend(self.word_of(rest, length - 1));
-        self.bare(&word);
+        word
     }
 
     fn wrong_word(&mut self) {
@@ -460,7 +500,10 @@ impl Maker<'_> {
                 };
                 self.numeral(letter, base);
             }
-            8..=10 => self.identifier(),
+            8..=10 => {
+                let word = self.identifier();
+                self.bare(&word);
+            }
             11 | 12 => self.symbolic_name(),
             13 => {
                 let length = self.length(32);

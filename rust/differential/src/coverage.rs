@@ -1,21 +1,28 @@
 //! What the library answered in a run, and what a run must have seen.
 
 use crate::compare::{Answer, Call};
-use crate::library::LAST_REFUSAL;
 
-/// Numbers of answers: success and the refusals.
-const NUMBERS: usize = LAST_REFUSAL as usize + 1;
+/// Numbers of answers: 0 for success, and those of the refusals up to the last.
+const NUMBERS: usize = 22;
 
 /// Each call, and the numbers that it can answer.
 const CALLS: [(&str, &[usize]); 4] = [
     (
         "read",
-        &[0, 1, 2, 3, 4, 5, 6, 7, 8, 9, 10, 11, 12, 13, 14, 15, 16, 17],
+        &[
+            0, 1, 2, 3, 4, 5, 6, 7, 8, 9, 10, 11, 12, 13, 14, 15, 16, 17, 21,
+        ],
     ),
     ("print", &[0, 2, 17, 18]),
     ("order", &[0, 17, 18, 19]),
     ("count", &[0, 18]),
 ];
+
+/// Whether a call can answer this number.
+pub fn is_answer(number: u32) -> bool {
+    let number = number as usize;
+    CALLS.iter().any(|(_, numbers)| numbers.contains(&number))
+}
 
 /// How often each call gave each answer, by its number, 0 for success.
 #[derive(Default)]
@@ -60,7 +67,7 @@ impl Coverage {
 
 #[cfg(test)]
 mod tests {
-    use super::{Coverage, CALLS};
+    use super::{is_answer, Coverage, CALLS, NUMBERS};
     use crate::compare::Call;
 
     /// Notes every answer that the calls can give but one; gives what is missing.
@@ -86,7 +93,7 @@ mod tests {
 
     #[test]
     fn what_no_call_answered_is_missing() {
-        assert_eq!(Coverage::default().missing().len(), 28);
+        assert_eq!(Coverage::default().missing().len(), 29);
         assert_eq!(all_but((0, 16)), ["read 16"]);
         assert_eq!(all_but((2, 19)), ["order 19"]);
         assert_eq!(all_but((3, 0)), ["count 0"]);
@@ -95,8 +102,11 @@ mod tests {
 
     #[test]
     fn every_refusal_belongs_to_a_call() {
-        for number in 1..=19 {
-            assert!(CALLS.iter().any(|(_, numbers)| numbers.contains(&number)));
+        for number in (0..=19).chain([21]) {
+            assert!(is_answer(number));
+        }
+        for number in [20, NUMBERS as u32, u32::MAX] {
+            assert!(!is_answer(number));
         }
     }
 }

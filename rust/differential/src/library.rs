@@ -8,9 +8,7 @@ use std::io::{self, Read, Write};
 use std::process::{Child, ChildStdin, ChildStdout, Command, Stdio};
 
 use crate::compare::{Answer, Call};
-
-/// The largest number of an answer: 0 is success, 1 to 19 are the refusals.
-pub const LAST_REFUSAL: u32 = 19;
+use crate::coverage::is_answer;
 
 /// Where the library is called.
 pub enum Library {
@@ -75,9 +73,9 @@ fn answer_of(answer: u64) -> Result<Answer, String> {
     let value = answer as u32;
     match (answer >> 32) as u32 {
         0 => Ok(Ok(value)),
-        number if number <= LAST_REFUSAL => Ok(Err((number, value))),
+        number if is_answer(number) => Ok(Err((number, value))),
         number => Err(format!(
-            "the answer's number is {number} (value {value}), none of 0 to {LAST_REFUSAL}"
+            "the answer's number is {number} (value {value}), that of no refusal"
         )),
     }
 }
@@ -208,6 +206,7 @@ mod tests {
     fn an_answer_is_taken_apart_whole() {
         assert_eq!(answer_of(77), Ok(Ok(77)));
         assert_eq!(answer_of((19 << 32) + 3), Ok(Err((19, 3))));
+        assert_eq!(answer_of((21 << 32) + 8), Ok(Err((21, 8))));
         for number in [20, 256, 256 + 14, 1 << 31] {
             assert!(answer_of(number << 32).is_err());
         }

@@ -1,4 +1,5 @@
-//! The lines of document 01, of its readings and of Z.315, 2.9.2, tried before all others.
+//! The lines of documents 01 and 02, of their readings and of Z.315, 2.9.2, tried before all
+//! others.
 
 /// Text and base letters.
 pub const LINES: &[(&str, &str)] = &[
@@ -114,4 +115,14 @@ pub const LINES: &[(&str, &str)] = &[
     ("A:0&&4294967295;", ""),
     ("A:H'5&&H'9++H'2;", ""),
     ("A:5-1&D'5-2&H'5-3&5.0-4;", ""),
+    ("A:LEV=3,LEV=4;", ""),
+    ("A:N=1:N=1;", ""),
+    ("A:N-1=1,N-01=1;", ""),
+    ("A:N=1,N=;", ""),
+    ("A:N=1,N-=2;", ""),
+    ("A:N-1=1,N - 1=2;", ""),
+    ("A:N=1.,N=1;", ""),
+    ("A:N=1,n=1,N-1=1,N-1-1=1,M-1=1;", ""),
+    ("A:PORT=1,PART=1,OWNER=1,OTNER=1;", ""),
+    ("A:1,1:,,;", ""),
 ];

@@ -1,6 +1,6 @@
 //! Compares the proved library with the model.
 //!
-//! `differential [SEED [COUNT [show]]]` takes the lines of document 01 and then makes inputs
+//! `differential [SEED [COUNT [show]]]` takes the lines of the documents and then makes inputs
 //! from SEED, COUNT in all: commands that are right, nearly right and damaged, and records of
 //! all kinds. Each goes through the calls on both
 //! sides, with buffers that are large, just fit, are one byte too short and empty. Answers and
@@ -10,14 +10,15 @@
 //!
 //! A run ends after COUNT inputs, or after a minute if there were 20,000 by then; it goes on
 //! until there are, and fails if a quarter of an hour is not enough. It fails too unless every
-//! call gave each answer that it can give: success and, all calls together, the refusals 1 to
-//! 19. The same SEED gives the same inputs.
+//! call gave each answer that it can give: success and, all calls together, every refusal. The
+//! same SEED gives the same inputs.
 
 mod commands;
 mod compare;
 mod coverage;
 mod library;
 mod lines;
+mod names;
 mod random;
 mod records;
 #[cfg(feature = "direct")]

@@ -1,7 +1,10 @@
 //! Generated records: those of commands, changed in their bytes and in their fields, spliced,
 //! and grown past what a text can give.
 
+use std::ops::Range;
+
 use crate::commands::damage;
+use crate::names::{self, Name};
 use crate::random::Random;
 
 /// A field: tag and content.
@@ -61,7 +64,7 @@ fn change(random: &mut Random, fields: &mut Vec<Field>, other: &[u8]) {
         fields.push((1, b"A".to_vec()));
     }
     let at = random.below(fields.len());
-    match random.below(17) {
+    match random.below(20) {
         0 => {
             fields.remove(at);
         }
@@ -85,6 +88,7 @@ fn change(random: &mut Random, fields: &mut Vec<Field>, other: &[u8]) {
         9 | 14 => each(random, fields, 3),
         15 => retag(random, fields),
         16 => add_places(random, fields),
+        17..=19 => rename(random, fields),
         10 => each(random, fields, 7),
         11 => each(random, fields, 6),
         _ => change_content(random, &mut fields[at]),
@@ -98,6 +102,41 @@ fn each(random: &mut Random, fields: &mut [Field], tag: u8) {
         let at = random.pick(&found);
         change_content(random, &mut fields[at]);
     }
+}
+
+/// Gives a place the name of another, or one that is like it.
+fn rename(random: &mut Random, fields: &mut Vec<Field>) {
+    let names: Vec<Range<usize>> = (0..fields.len())
+        .filter(|&at| fields[at].0 == 3)
+        .map(|place| name_behind(fields, place))
+        .filter(|name| !name.is_empty())
+        .collect();
+    if names.is_empty() {
+        return;
+    }
+    let (one, other) = (random.below(names.len()), random.below(names.len()));
+    let mut name: Name = fields[names[one].clone()]
+        .iter()
+        .map(|piece| piece.1.clone())
+        .collect();
+    let usual = name.iter().all(|piece| !piece.is_empty());
+    if usual && random.one_in(2) {
+        names::change(random, &mut name);
+    }
+    fields.splice(
+        names[other].clone(),
+        name.into_iter().map(|piece| (4, piece)),
+    );
+}
+
+/// Where the pieces of a name stand behind the field of a place.
+fn name_behind(fields: &[Field], place: usize) -> Range<usize> {
+    let start = place + 1;
+    let length = fields[start..]
+        .iter()
+        .take_while(|field| field.0 == 4)
+        .count();
+    start..start + length
 }
 
 /// Adds a block of omitted places, so that the places are about as many as there may be.
@@ -247,13 +286,13 @@ fn grown(random: &mut Random) -> Vec<Field> {
     for _ in 0..blocks {
         let named = random.one_in(2);
         fields.push((2, vec![if named { b'N' } else { b'P' }]));
+        let mut number = 10;
         for _ in 0..random.between(1, most) {
             let base = random.pick(b"DDDHOBK");
             fields.push((3, vec![base]));
             if named {
-                for _ in 0..random.pick(&[1, 1, 2, 4]) {
-                    fields.push((4, vec![b'N'; random.pick(&[1, 3, 32])]));
-                }
+                number += usize::from(!random.one_in(40));
+                grow_name(random, &mut fields, number);
             } else if random.one_in(4) {
                 continue;
             }
@@ -261,6 +300,16 @@ fn grown(random: &mut Random) -> Vec<Field> {
         }
     }
     fields
+}
+
+/// A name that ends with a number.
+fn grow_name(random: &mut Random, fields: &mut Vec<Field>, number: usize) {
+    for _ in 0..random.pick(&[0, 0, 1, 3]) {
+        fields.push((4, vec![b'N'; random.pick(&[1, 3, 32])]));
+    }
+    let letters = random.pick(&[1, 3, 30]);
+    let piece = [vec![b'N'; letters], number.to_string().into_bytes()];
+    fields.push((4, piece.concat()));
 }
 
 fn grow_value(random: &mut Random, fields: &mut Vec<Field>, plain: bool) {

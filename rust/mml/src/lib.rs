@@ -48,8 +48,8 @@ macro_rules! refusals {
         #[derive(Clone, Copy, Debug, PartialEq, Eq, Hash)]
         pub enum Refusal {
             $($(#[$about])* $name(u32),)*
-            /// The answer's number is none of 0 to 19: number and value as they came. The
-            /// library does not answer so; what is linked is not the library, or another one.
+            /// The answer's number is neither 0 nor a refusal's: number and value as they came.
+            /// The library does not answer so; what is linked is not the library, or another one.
             Unknown(u32, u32),
         }
 
@@ -62,7 +62,7 @@ macro_rules! refusals {
                 }
             }
 
-            /// The refusal's number: 1 to 19, unless it is unknown.
+            /// The refusal's number.
             pub const fn number(self) -> u32 {
                 match self {
                     $(Refusal::$name(_) => $number,)*
@@ -134,6 +134,9 @@ refusals! {
     18 Record "the record is not well formed";
     /// There is no order `k`. Place: the number of orders.
     19 NoOrder "there is no order with this number";
+    /// The name stands already in its block, all pieces equal byte for byte; in another block it
+    /// may stand again. Place: the second name's first token.
+    21 NameTwice "the name stands already in its block";
 }
 
 impl fmt::Display for Refusal {
@@ -226,6 +229,7 @@ mod tests {
         assert_eq!(value_of(0xFFFF_FFFF), Ok(u32::MAX));
         assert_eq!(value_of((14 << 32) + 5), Err(Refusal::Group(5)));
         assert_eq!(value_of((19 << 32) + 3), Err(Refusal::NoOrder(3)));
+        assert_eq!(value_of((21 << 32) + 8), Err(Refusal::NameTwice(8)));
     }
 
     #[test]

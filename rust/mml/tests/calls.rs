@@ -67,6 +67,7 @@ fn every_refusal_of_the_reader() {
     assert_eq!(refusal("1;"), Refusal::Code(0));
     assert_eq!(refusal("A:B=3,5;"), Refusal::Kind(6));
     assert_eq!(refusal("A:=1;"), Refusal::Name(2));
+    assert_eq!(refusal("A:LEV=3,LEV=4;"), Refusal::NameTwice(8));
     assert_eq!(refusal("A:1&;"), Refusal::Alternation(4));
     assert_eq!(refusal("A:1.;"), Refusal::Unit(2));
     assert_eq!(refusal("A:4294967296;"), Refusal::NumeralTooBig(2));
@@ -79,14 +80,14 @@ fn every_refusal_of_the_reader() {
 #[test]
 fn every_number_has_its_refusal() {
     let mut sentences = Vec::new();
-    for number in 1..=19 {
+    for number in (1..=19).chain([21]) {
         let refusal = Refusal::new(number, 5);
         assert!(!matches!(refusal, Refusal::Unknown(..)));
         assert_eq!((refusal.number(), refusal.place()), (number, 5));
         assert!(!sentences.contains(&refusal.sentence()));
         sentences.push(refusal.sentence());
     }
-    for number in [0, 20, 270, u32::MAX] {
+    for number in [0, 20, 22, 270, u32::MAX] {
         let refusal = Refusal::new(number, 5);
         assert_eq!(refusal, Refusal::Unknown(number, 5));
         assert_eq!((refusal.number(), refusal.place()), (number, 5));

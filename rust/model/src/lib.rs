@@ -1,9 +1,10 @@
 //! An independent model of the MML command translator.
 //!
-//! It does what the proved library does, by the wording of document 01 alone, in plain Rust
-//! without allocation: [`read`] makes a record of a command, [`print`] a command of a record,
-//! [`count`] tells how many orders a record has, and [`order`] gives one of them. A call that
-//! refuses writes nothing; a call that succeeds writes exactly the bytes it answers.
+//! It does what the proved library does, by the wording of document 01 and of the requests of
+//! document 02 that have landed, in plain Rust without allocation: [`read`] makes a record of a
+//! command, [`print`] a command of a record, [`count`] tells how many orders a record has, and
+//! [`order`] gives one of them. A call that refuses writes nothing; a call that succeeds writes
+//! exactly the bytes it answers.
 //!
 //! The model is what the library is compared with, in its answers and in its speed.
 
@@ -14,6 +15,7 @@
 mod characters;
 mod fields;
 mod groups;
+mod names;
 mod orders;
 mod printer;
 mod reader;
@@ -26,10 +28,10 @@ pub use orders::{count, order};
 pub use printer::print;
 pub use reader::read;
 
-/// A refusal: its number and its place, as document 01 lists them.
+/// A refusal: its number and its place, as the documents list them.
 #[derive(Clone, Copy, Debug, PartialEq, Eq)]
 pub struct Refusal {
-    /// 1 to 19.
+    /// 1 to 19, or 21.
     pub number: u8,
     /// A place in the text, an index of the base letters, or a size: by the number.
     pub place: u32,

@@ -3,6 +3,7 @@
 use crate::characters::is_permitted;
 use crate::fields;
 use crate::groups;
+use crate::names::{self, Marks};
 use crate::tokens::{Kind, Scan, Token};
 use crate::units::{read_unit, Base};
 use crate::writer::{self, Writer};
@@ -146,6 +147,7 @@ impl Reader<'_> {
     fn block(&mut self, colon: usize) -> Result<usize, Refusal> {
         self.size += writer::LETTER_SIZE;
         let kind = self.tokens[colon].class;
+        let mut marks = Marks::NONE;
         let mut at = colon;
         loop {
             let opener = self.tokens[at];
@@ -157,7 +159,14 @@ impl Reader<'_> {
                 return self.tokens[at + 1].refused(9);
             }
             let end = opener.start as usize;
-            self.place(at + 1, end, kind != 0)?;
+            let mut first = at + 1;
+            self.size += writer::LETTER_SIZE;
+            if kind != 0 {
+                first = self.name(colon, first, &mut marks)? + 1;
+            }
+            if kind != 0 || first < end {
+                self.value(first, end)?;
+            }
             at = end;
             if self.tokens[at].kind != Kind::Comma {
                 return Ok(at);
@@ -165,16 +174,49 @@ impl Reader<'_> {
         }
     }
 
-    /// Judges name and value of the place from `first` on that the separator at `end` ends.
-    fn place(&mut self, first: usize, end: usize, named: bool) -> Result<(), Refusal> {
-        self.size += writer::LETTER_SIZE;
-        if named {
-            let equal = self.pieces(first, Pieces::Name)?;
-            self.value(equal + 1, end)
-        } else if first < end {
-            self.value(first, end)
-        } else {
-            Ok(())
+    /// Judges the name from `first` on, in the block that the `:` at `colon` starts, behind the
+    /// names that are marked; gives the `=` that ends it. Refuses with 10 and 21.
+    fn name(&mut self, colon: usize, first: usize, marks: &mut Marks) -> Result<usize, Refusal> {
+        let equal = self.pieces(first, Pieces::Name)?;
+        let mut key = 0;
+        for piece in self.tokens[first..equal].iter().step_by(2) {
+            key = names::key(key, piece.content(self.contents));
+        }
+        if marks.mark(key) && self.is_met(colon, first) {
+            return self.tokens[first].refused(21);
+        }
+        Ok(equal)
+    }
+
+    /// Whether the name from `first` on stands before it in its block.
+    #[cold]
+    fn is_met(&self, colon: usize, first: usize) -> bool {
+        let mut opener = colon;
+        while opener + 1 < first {
+            if self.same_name(opener + 1, first) {
+                return true;
+            }
+            opener = self.tokens[opener].start as usize;
+        }
+        false
+    }
+
+    /// Whether two names, by their first tokens, are equal: all pieces, byte for byte.
+    fn same_name(&self, mut one: usize, mut other: usize) -> bool {
+        loop {
+            let (piece, same) = (&self.tokens[one], &self.tokens[other]);
+            if piece.content(self.contents) != same.content(self.contents) {
+                return false;
+            }
+            let behind = self.tokens[one + 1].kind;
+            if behind != self.tokens[other + 1].kind {
+                return false;
+            }
+            if behind == Kind::Equal {
+                return true;
+            }
+            one += 2;
+            other += 2;
         }
     }
 

@@ -4,6 +4,7 @@ use crate::characters::{self, class_of_word};
 use crate::fields::{self, Fields, Numeral};
 use crate::groups::terms;
 use crate::limits;
+use crate::names::{self, Marks};
 use crate::units::Base;
 
 /// A value that is not one single element.
@@ -22,7 +23,7 @@ pub struct Group {
 #[inline(always)]
 pub fn judge(record: &[u8], group: impl FnMut(Group)) -> Option<u32> {
     let mut judge = Judge {
-        size: record.len(),
+        record,
         fields: Fields { rest: record },
         places: 0,
         orders: 1,
@@ -33,7 +34,7 @@ pub fn judge(record: &[u8], group: impl FnMut(Group)) -> Option<u32> {
 }
 
 struct Judge<'r, G> {
-    size: usize,
+    record: &'r [u8],
     fields: Fields<'r>,
     places: usize,
     orders: u32,
@@ -71,36 +72,62 @@ impl<G: FnMut(Group)> Judge<'_, G> {
             _ => return None,
         };
         holds(self.fields.tag() == fields::PLACE)?;
+        let first = self.offset();
+        let mut marks = Marks::NONE;
         while self.fields.tag() == fields::PLACE {
-            self.place(named)?;
+            let base = self.base()?;
+            if named {
+                let name = self.offset();
+                let key = self.name()?;
+                holds(!marks.mark(key) || !self.is_met(first, name))?;
+            }
+            let elements = self.value(base)?;
+            holds(elements > 0 || !named)?;
         }
         Some(())
     }
 
-    fn place(&mut self, named: bool) -> Option<()> {
+    /// The base of the next place.
+    fn base(&mut self) -> Option<Base> {
         self.places += 1;
         holds(self.places <= limits::PLACES)?;
-        let base = match self.fields.take()? {
-            [letter] => Base::of(*letter)?,
-            _ => return None,
-        };
-        if named {
-            self.name()?;
+        match self.fields.take()? {
+            [letter] => Base::of(*letter),
+            _ => None,
         }
-        let elements = self.value(base)?;
-        holds(elements > 0 || !named)
     }
 
-    fn name(&mut self) -> Option<()> {
+    /// Judges a name; gives its key.
+    fn name(&mut self) -> Option<u32> {
         let mut pieces = 0;
+        let mut key = 0;
         while self.fields.tag() == fields::NAME_PIECE {
             let piece = self.fields.take()?;
             let index_number = pieces > 0 && is_index_number(piece);
             pieces += 1;
             holds(pieces <= limits::NAME_PIECES)?;
             holds(index_number || is_identifier(piece))?;
+            key = names::key(key, piece);
         }
-        holds(pieces > 0)
+        holds(pieces > 0)?;
+        Some(key)
+    }
+
+    /// Whether the name at `name` stands before it in its block, whose first place is at `first`.
+    #[cold]
+    fn is_met(&self, first: usize, name: usize) -> bool {
+        let mut before = Fields {
+            rest: &self.record[first..name],
+        };
+        let name = name_of(&self.record[name..]);
+        while !before.rest.is_empty() {
+            let is_place = before.tag() == fields::PLACE;
+            before.take();
+            if is_place && name_of(before.rest) == name {
+                return true;
+            }
+        }
+        false
     }
 
     /// Judges the elements of a value; gives their number.
@@ -149,7 +176,7 @@ impl<G: FnMut(Group)> Judge<'_, G> {
 
     /// Where the next field begins in the record.
     fn offset(&self) -> usize {
-        self.size - self.fields.rest.len()
+        self.record.len() - self.fields.rest.len()
     }
 
     fn argument(&mut self, base: Base) -> Option<Argument> {
@@ -198,6 +225,15 @@ impl Argument {
         holds(lower.fraction == 0 && lower.value <= upper && increment > 0)?;
         Some(terms(lower.value, upper, increment))
     }
+}
+
+/// The fields of the name that these bytes begin with.
+fn name_of(record: &[u8]) -> &[u8] {
+    let mut behind = Fields { rest: record };
+    while behind.tag() == fields::NAME_PIECE {
+        behind.take();
+    }
+    &record[..record.len() - behind.rest.len()]
 }
 
 #[inline(always)]

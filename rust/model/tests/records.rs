@@ -287,7 +287,8 @@ fn sizes() {
 #[test]
 fn the_longest_record() {
     let piece = field(1, &[b'A'; 32]);
-    let name = field(4, &[b'N'; 32]).repeat(4);
+    let index = |place: usize| field(4, format!("{place:032}").as_bytes());
+    let name = |place| [field(4, &[b'N'; 32]).repeat(3), index(place)].concat();
     let element = [single(), field(11, &[b'x'; 80]).repeat(4)].concat();
     let mut record = piece.repeat(3);
     for place in 0..32 {
@@ -300,7 +301,7 @@ fn the_longest_record() {
             _ => 1,
         };
         record.extend_from_slice(&field(3, b"D"));
-        record.extend_from_slice(&name);
+        record.extend_from_slice(&name(place));
         record.extend_from_slice(&element.repeat(elements));
     }
     assert_eq!(record.len(), 62_365);

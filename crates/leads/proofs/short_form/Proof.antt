@@ -1,5 +1,5 @@
 use borrow.Author.Needs.{needs}
-use Rattle.leads.proofs.SameLaws.{short-first, short-simple, short-same}
+use Rattle.leads.proofs.ShortLaws.{short-first, short-simple, short-same}
 use mathlib.Core.Path.{_≡_, refl, sym, ap, _∙_}
 use native.Mathlib.Omega.{arith}
 use denote.Ref.{now}
@@ -7,7 +7,7 @@ use Rattle.leads.proofs.short_form.Statement.{statement}
 use Rattle.leads.proofs.short_form.Tie as tie
 use Rattle.leads.proofs.short_form.Reads as reads
 use Rattle.leads.proofs.short_form.Lts as lts
-use Rattle.leads.proofs.same.Reads as same-reads
+use Rattle.marks.proofs.same.Reads as same-reads
 
 -- src/lib.rt:70:9
 returns : tie.Need-returns

@@ -1,5 +1,6 @@
-use borrow.Author.Needs.{needs}
+-- `place` meets its contract: its tests are those of the rule, in the rule's order.
 use Rattle.places.proofs.PlaceLaws.{place-many, place-cut, place-uncut, place-named, place-position}
+use borrow.Author.Needs.{needs}
 use Rattle.places.proofs.place.Statement.{statement}
 use Rattle.places.proofs.place.Tie as tie
 use Rattle.places.proofs.place.Reads as reads
@@ -9,49 +10,38 @@ use Rattle.places.proofs.named_place.Reads as named-place-reads
 use Rattle.places.proofs.position.Reads as position-reads
 use Rattle.places.proofs.refused.Reads as refused-reads
 
--- src/lib.rt:103:9
 refused-requires : tie.Need-refused-requires
 refused-requires c κs = search needs
 
--- src/lib.rt:103:9
 returns : tie.Need-returns
-returns c = search (needs, place-many)
+returns c = λ ns w. search (needs, place-many)
 
--- src/lib.rt:105:9
 find-requires : tie.Need-find-requires
 find-requires c κs = search needs
 
--- src/lib.rt:108:13
 named-place-requires : tie.Need-named-place-requires
 named-place-requires c κs = search needs
 
--- src/lib.rt:108:13
 returns-2 : tie.Need-returns-2
-returns-2 c = search (needs, place-named)
+returns-2 c = λ ns w. search (needs, place-named)
 
--- src/lib.rt:110:9
 refused-requires-2 : tie.Need-refused-requires-2
 refused-requires-2 c κs = search needs
 
--- src/lib.rt:110:9
 returns-3 : tie.Need-returns-3
-returns-3 c = search (needs, place-cut)
+returns-3 c = λ ns w. search (needs, place-cut)
 
--- src/lib.rt:113:9
 refused-requires-3 : tie.Need-refused-requires-3
 refused-requires-3 c κs = search needs
 
--- src/lib.rt:113:9
 returns-4 : tie.Need-returns-4
-returns-4 c = search (needs, place-uncut)
+returns-4 c = λ ns w. search (needs, place-uncut)
 
--- src/lib.rt:115:5
 position-requires : tie.Need-position-requires
 position-requires c κs = search needs
 
--- src/lib.rt:99:1
 returns-5 : tie.Need-returns-5
-returns-5 c = search (needs, place-position)
+returns-5 c = λ ns w. search (needs, place-position)
 
 pub place-spec : {M : Type 1} → statement M
 place-spec =

@@ -37,8 +37,8 @@ got c =
     (c .before .before .read-value .ensures (baseIn (now (a .bases)) (a .n)) (c .before .before .before .base .ensures)) (c .count .given .1)
 
 -- src/lib.rt:62:19
-cast-t14 : tie.Need-cast-t14
-cast-t14 c = omega (arith, got (c .before))
+cast-t15 : tie.Need-cast-t15
+cast-t15 c = omega (arith, got (c .before))
 
 -- src/lib.rt:63:30
 shared-slice-read-place : tie.Need-shared-slice-read-place
@@ -54,11 +54,11 @@ with-value-requires c κs = let a = c .before .before .before .before .before .b
 
 -- src/lib.rt:54:1
 returns : tie.Need-returns
-returns c = let a = c .before .before .before .before .before .before .before .before .args in let v = c .before .no .given .0 in value-wrong (now (a .toks)) (now (a .contents)) (baseIn (now (a .bases)) (a .n)) (a .head) (a .end) (v .0) (v .1 .0) (c .before .before .before .read-value .ensures (baseIn (now (a .bases)) (a .n)) (c .before .before .before .before .base .ensures)) (c .before .no .given .1)
+returns c = let a = c .before .before .before .before .before .before .before .before .args in let v = c .before .no .given .0 in value-wrong (now (a .toks)) (now (a .contents)) (baseIn (now (a .bases)) (a .n)) (a .head) (a .key) (a .end) (v .0) (v .1 .0) (c .before .before .before .read-value .ensures (baseIn (now (a .bases)) (a .n)) (c .before .before .before .before .base .ensures)) (c .before .no .given .1)
 
 -- src/lib.rt:54:1
 returns-2 : tie.Need-returns-2
-returns-2 c = let a = c .before .before .before .before .before .before .before .before .before .before .before .args in value-fine (now (a .toks)) (now (a .contents)) (c .before .before .before .before .before .before .before .base .result) (baseIn (now (a .bases)) (a .n)) (a .head) (a .end) (c .before .before .before .before .count .given .0 .1 .0) (got (c .before .before .before .before)) (c .before .before .before .before .before .before .before .base .ensures) (c .before .place .ensures) (c .with-value .ensures)
+returns-2 c = let a = c .before .before .before .before .before .before .before .before .before .before .before .args in value-fine (now (a .toks)) (now (a .contents)) (c .before .before .before .before .before .before .before .base .result) (baseIn (now (a .bases)) (a .n)) (a .head) (a .key) (a .end) (c .before .before .before .before .count .given .0 .1 .0) (got (c .before .before .before .before)) (c .before .before .before .before .before .before .before .base .ensures) (c .before .place .ensures) (c .with-value .ensures)
 
 pub value-spec : {M : Type 1} → statement M
 value-spec =
@@ -68,7 +68,7 @@ value-spec =
     read-value-requires
     enum-known-no
     enum-known-count
-    cast-t14
+    cast-t15
     shared-slice-read-place
     place-requires
     with-value-requires

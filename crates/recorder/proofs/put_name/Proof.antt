@@ -81,7 +81,7 @@ put c = let a = c .before .before .before .before .before .before .before .befor
 
 -- src/lib.rt:81:5
 add-result : tie.Need-add-result
-add-result c = let a = c .before .before .before .before .before .before .before .before .before .before .before .before .before .before .args in let ts = now (a .toks) in let cs = now (a .contents) in let l = a .base in let old = now (a .out) in let w = c .before .before .before .before .before .before .before .before .before .before .before .before .before .before .pre in omega (arith, (put c) (w .base) (w .end) (w .x) (w .own) (w .is) .0, w .fits, c .before .before .before .before .before .before .before .before .before .before .before .before .before .before .good .0 .0)
+add-result c = let a = c .before .before .before .before .before .before .before .before .before .before .before .before .before .before .args in let ts = now (a .toks) in let cs = now (a .contents) in let l = a .base in let old = now (a .out) in let w = c .before .before .before .before .before .before .before .before .before .before .before .before .before .before .pre in omega (arith, (put c) (w .base) (w .names) (w .end) (w .x) (w .own) (w .is) .0, w .fits, c .before .before .before .before .before .before .before .before .before .before .before .before .before .before .good .0 .0)
 
 -- src/lib.rt:75:1
 same-length : tie.Need-same-length

@@ -46,7 +46,7 @@ by-name c = let a = c .before .before .before .before .before .before .before .b
 
 -- src/lib.rt:92:16
 add-result : tie.Need-add-result
-add-result c = let a = c .before .before .before .before .before .before .before .before .before .before .before .before .before .before .args in let ts = now (a .toks) in let cs = now (a .contents) in let ls = now (a .bases) in let old = now (a .out) in let w = c .before .before .before .before .before .before .before .before .before .before .before .before .before .before .pre in omega (arith, (by-name c) (w .end) (w .x) (w .is) .0, w .fits, c .before .before .before .before .before .before .before .before .before .before .before .before .before .before .good .0 .0)
+add-result c = let a = c .before .before .before .before .before .before .before .before .before .before .before .before .before .before .args in let ts = now (a .toks) in let cs = now (a .contents) in let ls = now (a .bases) in let old = now (a .out) in let w = c .before .before .before .before .before .before .before .before .before .before .before .before .before .before .pre in omega (arith, (by-name c) (w .names) (w .end) (w .x) (w .is) .0, w .fits, c .before .before .before .before .before .before .before .before .before .before .before .before .before .before .good .0 .0)
 
 -- src/lib.rt:92:9
 same-length : tie.Need-same-length
@@ -78,7 +78,7 @@ by-position c = let a = c .before .before .before .before .before .before .befor
 
 -- src/lib.rt:95:16
 add-result-2 : tie.Need-add-result-2
-add-result-2 c = let a = c .before .before .before .before .before .before .before .before .before .before .before .before .before .before .before .args in let ts = now (a .toks) in let cs = now (a .contents) in let ls = now (a .bases) in let old = now (a .out) in let w = c .before .before .before .before .before .before .before .before .before .before .before .before .before .before .before .pre in omega (arith, (by-position c) (w .end) (w .x) (w .is) .0, w .fits, c .before .before .before .before .before .before .before .before .before .before .before .before .before .before .before .good .0 .0)
+add-result-2 c = let a = c .before .before .before .before .before .before .before .before .before .before .before .before .before .before .before .args in let ts = now (a .toks) in let cs = now (a .contents) in let ls = now (a .bases) in let old = now (a .out) in let w = c .before .before .before .before .before .before .before .before .before .before .before .before .before .before .before .pre in omega (arith, (by-position c) (w .names) (w .end) (w .x) (w .is) .0, w .fits, c .before .before .before .before .before .before .before .before .before .before .before .before .before .before .before .good .0 .0)
 
 -- src/lib.rt:95:9
 same-length-2 : tie.Need-same-length-2

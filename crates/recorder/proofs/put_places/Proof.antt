@@ -65,7 +65,7 @@ put-place-requires c κs = let a = c .before .before .before .before .before .be
 
 -- src/lib.rt:110:9
 add-k : tie.Need-add-k Inv-loop μ-loop
-add-k c = let a = c .before .before .before .before .before .before .before .before .before .before .before .before .args in let ts = now (a .toks) in let cs = now (a .contents) in let ls = now (a .bases) in let old = now (a .out) in let l = c .before .before .before .before .before .before .before .loop in let w = c .before .before .before .before .before .before .before .before .before .before .before .before .pre in let f = placing-fits ts cs ls (a .named) (a .first) old (l .i) (l .n) (l .k) (l .out) (l .inv) w (c .before .before .before .before .before .before .loop-test .taken) (c .before .before .before .before .before .find .ensures) in omega (arith, c .before .before .put-place .ensures (f .end) (f .x) (f .is) .0, f .fits, length-part (l .out) (l .k), placing-room ts cs ls (a .named) (a .first) old (l .i) (l .n) (l .k) (l .out) (l .inv) w (c .before .before .before .before .before .before .loop-test .taken) (c .before .before .before .before .before .find .ensures), placing-long ts cs ls (a .named) (a .first) old (l .i) (l .n) (l .k) (l .out) (l .inv) w, c .before .before .before .before .before .before .before .before .before .before .before .before .good .0 .0)
+add-k c = let a = c .before .before .before .before .before .before .before .before .before .before .before .before .args in let ts = now (a .toks) in let cs = now (a .contents) in let ls = now (a .bases) in let old = now (a .out) in let l = c .before .before .before .before .before .before .before .loop in let w = c .before .before .before .before .before .before .before .before .before .before .before .before .pre in let f = placing-fits ts cs ls (a .named) (a .first) old (l .i) (l .n) (l .k) (l .out) (l .inv) w (c .before .before .before .before .before .before .loop-test .taken) (c .before .before .before .before .before .find .ensures) in omega (arith, c .before .before .put-place .ensures (f .names) (f .end) (f .x) (f .is) .0, f .fits, length-part (l .out) (l .k), placing-room ts cs ls (a .named) (a .first) old (l .i) (l .n) (l .k) (l .out) (l .inv) w (c .before .before .before .before .before .before .loop-test .taken) (c .before .before .before .before .before .find .ensures), placing-long ts cs ls (a .named) (a .first) old (l .i) (l .n) (l .k) (l .out) (l .inv) w, c .before .before .before .before .before .before .before .before .before .before .before .before .good .0 .0)
 
 -- src/lib.rt:111:9
 add-n : tie.Need-add-n Inv-loop μ-loop

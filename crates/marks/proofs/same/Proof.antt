@@ -1,14 +1,14 @@
+-- `same` meets its contract: up to where the loop stands the words are equal.
 use borrow.Author.Needs.{needs}
 use lib.ListN.{length}
 use Prim.Native.Nat.{_-_}
-use Rattle.leads.proofs.SameLaws.{unlike, Same, same-none, same-end, same-stop, same-more}
-use mathlib.Core.Path.{_≡_, refl, sym, ap, _∙_}
+use Rattle.marks.proofs.SameLaws.{unlike, Same, same-none, same-end, same-stop, same-more}
 use native.Mathlib.Omega.{arith}
 use denote.Ref.{now}
-use Rattle.leads.proofs.same.Statement.{statement}
-use Rattle.leads.proofs.same.Tie as tie
-use Rattle.leads.proofs.same.Reads as reads
-use Rattle.leads.proofs.same.Lts as lts
+use Rattle.marks.proofs.same.Statement.{statement}
+use Rattle.marks.proofs.same.Tie as tie
+use Rattle.marks.proofs.same.Reads as reads
+use Rattle.marks.proofs.same.Lts as lts
 
 abbrev Inv-loop : tie.InvT-loop
 Inv-loop a b i₀ i = Same a b i

@@ -1,15 +1,14 @@
 -- Two lists of one length, compared byte by byte.
-use mathlib.Core.Path.{_≡_, refl, ap, sym, _∙_}
-use mathlib.Core.Bool.{Bool, true, false}
+use mathlib.Core.Path.{_≡_, refl, sym, _∙_}
+use mathlib.Core.Bool.{true, false}
 use mathlib.Core.List.{List, [], _∷_}
 use Prim.Native.Nat.{ℕ, _+_, _≤_, _<_}
 use native.Mathlib.Omega.{arith}
-use borrow.Author.Tests.{eq-eqb, ne-eqb, lt-leb, le-leb}
+use borrow.Author.Tests.{eq-eqb, ne-eqb}
+use lib.Dec.{eqb}
 use lib.ListN.{length, getD, drop, drop-of-length-le}
-use Rattle.laws.specs.Cases.{byBool, and-false}
-use Rattle.laws.specs.Lists.{eqL, isNil, next}
-use lib.Dec.{leb, eqb}
-use Rattle.leads.specs.Fields.{shortForm}
+use Rattle.laws.specs.Cases.{byBool}
+use Rattle.laws.specs.Lists.{eqL, next}
 
 pub unlike : (a b : List ℕ) → (length a ≡ length b → ⊥) → false ≡ eqL a b
 unlike [] [] h = absurd (h refl)
@@ -36,24 +35,3 @@ module _ {a b : List ℕ} {i : ℕ} (v : Same a b i) where
   same-more h e =
       let k : i < length b = omega (arith, v .long) in
       record { is = v .is ∙ rw (next a i h, next b i k, eq-eqb (getD a i 0) (getD b i 0) e); long = v .long }
-
-pub nil-none : (y : List ℕ) → length y ≡ 0 → isNil y ≡ true
-nil-none [] h = refl
-nil-none (c ∷ y) h = absurd (omega arith)
-
-pub nil-some : (y : List ℕ) → (length y ≡ 0 → ⊥) → isNil y ≡ false
-nil-some [] h = absurd (h refl)
-nil-some (c ∷ y) h = refl
-
-module _ (l : ℕ) (x y : List ℕ) where
-  pub short-first : l < 7 → false ≡ shortForm l x y
-  unfolding shortForm
-  short-first h = rw (lt-leb 7 l h)
-
-  pub short-simple : length y ≡ 0 → false ≡ shortForm l x y
-  unfolding shortForm
-  short-simple h = rw (nil-none y h) (sym (and-false (leb 7 l)))
-
-  pub short-same : {t : Bool} → 7 ≤ l → (length y ≡ 0 → ⊥) → t ≡ eqL x y → t ≡ shortForm l x y
-  unfolding shortForm
-  short-same h n e = rw (le-leb 7 l h, nil-some y n) e

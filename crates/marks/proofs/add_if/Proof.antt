@@ -1,0 +1,19 @@
+-- `add_if` meets its contract: by cases on what is wanted.
+use borrow.Author.Needs.{needs}
+use Rattle.marks.proofs.add_if.Statement.{statement}
+use Rattle.marks.proofs.add_if.Tie as tie
+use Rattle.marks.proofs.add_if.Reads as reads
+use Rattle.marks.proofs.add_if.Lts as lts
+use Rattle.marks.proofs.add.Reads as add-reads
+
+add-requires : tie.Need-add-requires
+add-requires c κs = search needs
+
+returns : tie.Need-returns
+returns c = rw (c .before .if1 .taken) (c .add .ensures)
+
+returns-2 : tie.Need-returns-2
+returns-2 c = rw (c .if1 .left)
+
+pub add-if-spec : {M : Type 1} → statement M
+add-if-spec = tie.close (tie.spec add-requires returns returns-2)

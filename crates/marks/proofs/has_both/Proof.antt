@@ -1,0 +1,25 @@
+-- `has_both` meets its contract: its two tests are those of the definition.
+use Prim.Native.Nat.{_/_}
+use Rattle.marks.specs.Marks.{hasBit}
+use Rattle.marks.proofs.MarkLaws.{both-yes, both-no}
+use borrow.Author.Needs.{needs}
+use Rattle.marks.proofs.has_both.Statement.{statement}
+use Rattle.marks.proofs.has_both.Tie as tie
+use Rattle.marks.proofs.has_both.Reads as reads
+use Rattle.marks.proofs.has_both.Lts as lts
+use Rattle.marks.proofs.has_bit.Reads as has-bit-reads
+
+has-bit-requires : tie.Need-has-bit-requires
+has-bit-requires c κs = search needs
+
+has-bit-requires-2 : tie.Need-has-bit-requires-2
+has-bit-requires-2 c κs = search needs
+
+returns : tie.Need-returns
+returns c = let a = c .before .before .before .args in both-yes (hasBit (a .one) (a .parts)) (hasBit (a .other) (a .parts / 64)) (c .before .before .has-bit .ensures) (c .before .if1 .taken) (c .has-bit2 .ensures)
+
+returns-2 : tie.Need-returns-2
+returns-2 c = let a = c .before .before .args in both-no (hasBit (a .one) (a .parts)) (hasBit (a .other) (a .parts / 64)) (c .before .has-bit .ensures) (c .if1 .left)
+
+pub has-both-spec : {M : Type 1} → statement M
+has-both-spec = tie.close (tie.spec has-bit-requires has-bit-requires-2 returns returns-2)

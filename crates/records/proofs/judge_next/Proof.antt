@@ -1,0 +1,91 @@
+-- `judge_next` meets its contract: a place is read, and in a named block its name is told by the places before it.
+use borrow.Author.Needs.{needs}
+use Rattle.judged_places.specs.Judging.{PlaceIs, ReadAs}
+use Rattle.judged_places.specs.Places.{onePlace}
+use Rattle.judged_names.specs.Names.{Tells}
+use Rattle.arguments.specs.Terms.{bytesIn}
+use Rattle.walk.proofs.FrontLaws.{Small}
+use Rattle.records.proofs.NextLaws.{next-none, from-there, place-behind, next-unnamed, next-once, next-twice}
+use Prim.Native.Nat.{_-_, _≤_}
+use lib.ListN.{drop}
+use mathlib.Core.Path.{subst}
+use native.Mathlib.Omega.{arith}
+use denote.Ref.{now}
+use Rattle.records.proofs.judge_next.Statement.{statement}
+use Rattle.records.proofs.judge_next.Tie as tie
+
+-- what a record's bytes are
+bytes-small : (c : tie.After-shared-slice-known) → Small (now (c .before .args .rec))
+bytes-small c i = omega (arith, c .shared-slice-known .given i)
+
+-- the place that stands there
+the-place : (c : tie.After-known-told) → let v = c .before .count .given .0 in
+    PlaceIs (onePlace (c .before .before .before .before .before .args .named) (drop (c .before .before .before .before .before .args .at) (now (c .before .before .before .before .before .args .rec)))) (now (c .before .before .before .before .before .args .rec)) (v .0) (v .1 .0)
+the-place c =
+    subst (ReadAs (onePlace (c .before .before .before .before .before .args .named) (drop (c .before .before .before .before .before .args .at) (now (c .before .before .before .before .before .args .rec)))) (now (c .before .before .before .before .before .args .rec))) (c .before .count .given .1) (c .before .before .before .judge-place .ensures)
+
+-- it ends behind where the block's places begin
+behind : (c : tie.After-known-told) → (c .before .before .before .before .before .args .from) ≤ c .before .count .given .0 .1 .0
+behind c =
+    from-there (c .before .before .before .before .before .args .named) (now (c .before .before .before .before .before .args .rec)) (c .before .before .before .before .before .args .from) (c .before .before .before .before .before .args .at) (c .before .before .before .before .before .pre .0) (bytes-small (c .before .before .before .before)) (the-place c) (c .before .before .before .before .before .pre .1 .0) (c .before .before .before .before .before .pre .1 .1)
+
+judge-place-requires : tie.Need-judge-place-requires
+judge-place-requires c κs = c .before .pre .0
+
+enum-known-count : tie.Need-enum-known-count
+enum-known-count c = search needs
+
+enum-told : tie.Need-enum-told
+enum-told c = search needs
+
+returns : tie.Need-returns
+returns c = next-none (c .before .before .before .before .args .named) (now (c .before .before .before .before .args .rec)) (c .before .before .before .before .args .from) (c .before .before .before .before .args .at) (c .before .before .before .before .args .known) (subst (ReadAs (onePlace (c .before .before .before .before .args .named) (drop (c .before .before .before .before .args .at) (now (c .before .before .before .before .args .rec)))) (now (c .before .before .before .before .args .rec))) (c .enum-told .given .1) (c .before .before .judge-place .ensures))
+
+sub-tell : tie.Need-sub-tell
+sub-tell c = behind (c .before)
+
+part-tell-start : tie.Need-part-tell-start
+part-tell-start c = behind (c .before)
+
+part-tell-end : tie.Need-part-tell-end
+part-tell-end c = the-place (c .before) .inside
+
+sub-tell-2 : tie.Need-sub-tell-2
+sub-tell-2 c = c .before .before .before .before .before .before .before .pre .1 .1 .order
+
+tell-requires : tie.Need-tell-requires
+tell-requires c κs = place-behind (c .before .before .before .before .before .before .before .args .named) (now (c .before .before .before .before .before .before .before .args .rec)) (c .before .before .before .before .before .before .before .args .from) (c .before .before .before .before .before .before .before .args .at) (c .before .before .before .before .before .before .before .pre .0) (bytes-small (c .before .before .before .before .before .before)) (the-place (c .before .before)) (c .before .before .before .before .before .before .before .pre .1 .0) (c .before .before .before .before .before .before .before .pre .1 .1)
+
+enum-known-key : tie.Need-enum-known-key
+enum-known-key c = search needs
+
+enum-told-2 : tie.Need-enum-told-2
+enum-told-2 c = search needs
+
+returns-2 : tie.Need-returns-2
+returns-2 c = next-twice (c .before .before .before .before .before .before .before .before .before .before .args .named) (now (c .before .before .before .before .before .before .before .before .before .before .args .rec)) (c .before .before .before .before .before .before .before .before .before .before .args .from) (c .before .before .before .before .before .before .before .before .before .before .args .at) (c .before .before .before .before .before .before .before .before .before .before .pre .0) (bytes-small (c .before .before .before .before .before .before .before .before .before)) (the-place (c .before .before .before .before .before)) (subst (Tells (bytesIn (now (c .before .before .before .before .before .before .before .before .before .before .args .rec)) (c .before .before .before .before .before .before .before .before .before .before .args .from) (c .before .before .before .before .before .before .count .given .0 .1 .0)) ((c .before .before .before .before .before .before .before .before .before .before .args .at) - (c .before .before .before .before .before .before .before .before .before .before .args .from)) (c .before .before .before .before .before .before .before .before .before .before .args .known)) (c .enum-told2 .given .1) (c .before .before .tell .ensures)) (c .before .before .before .before .if1 .taken)
+
+returns-3 : tie.Need-returns-3
+returns-3 c = next-once (c .before .before .before .before .before .before .before .before .before .before .before .args .named) (now (c .before .before .before .before .before .before .before .before .before .before .before .args .rec)) (c .before .before .before .before .before .before .before .before .before .before .before .args .from) (c .before .before .before .before .before .before .before .before .before .before .before .args .at) (c .before .before .before .before .before .before .before .before .before .before .before .pre .0) (bytes-small (c .before .before .before .before .before .before .before .before .before .before)) (the-place (c .before .before .before .before .before .before)) (subst (Tells (bytesIn (now (c .before .before .before .before .before .before .before .before .before .before .before .args .rec)) (c .before .before .before .before .before .before .before .before .before .before .before .args .from) (c .before .before .before .before .before .before .before .count .given .0 .1 .0)) ((c .before .before .before .before .before .before .before .before .before .before .before .args .at) - (c .before .before .before .before .before .before .before .before .before .before .before .args .from)) (c .before .before .before .before .before .before .before .before .before .before .before .args .known)) (c .before .key .given .1) (c .before .before .before .tell .ensures)) (c .before .before .before .before .before .if1 .taken)
+
+returns-4 : tie.Need-returns-4
+returns-4 c = next-unnamed (c .before .before .before .before .before .before .args .named) (now (c .before .before .before .before .before .before .args .rec)) (c .before .before .before .before .before .before .args .from) (c .before .before .before .before .before .before .args .at) (c .before .before .before .before .before .before .pre .0) (bytes-small (c .before .before .before .before .before)) (the-place (c .before)) 0 (c .if1 .left)
+
+pub judge-next-spec : {M : Type 1} → statement M
+judge-next-spec =
+    tie.close
+    (tie.spec
+    judge-place-requires
+    enum-known-count
+    enum-told
+    returns
+    sub-tell
+    part-tell-start
+    part-tell-end
+    sub-tell-2
+    tell-requires
+    enum-known-key
+    enum-told-2
+    returns-2
+    returns-3
+    returns-4)
