@@ -1,5 +1,5 @@
 /*
- * mml.h - the C interface of the verified MML command translator (libmml.a), version 1.0.
+ * mml.h - the C interface of the verified MML command translator (libmml.a).
  *
  * A command is a line of text as an operator types it, for example
  *
@@ -60,7 +60,7 @@
  *      7   numeral         base letter D, H, O or B (1 byte), number of fraction digits (1 byte),
  *                          value (4 bytes): the whole number without the full stop, so that
  *                          3.50 is D, 2, 350; fraction digits only with D, 0 to 9 of them
- *      8   keyed numeral   its characters: 0 to 9, *, #, A to D
+ *      8   keyed numeral   its characters: 0 to 9, *, #, A to D; no small letter
  *      9   identifier      its characters: a letter, then letters and digits
  *     10   symbolic name   its characters: letters, digits, + # %
  *     11   string          its bytes, a doubled quotation mark once; perhaps empty
@@ -104,9 +104,9 @@ extern "C" {
 #endif
 
 /* The version of the interface. */
-#define MML_VERSION "1.1"
+#define MML_VERSION "1.2"
 #define MML_VERSION_MAJOR 1
-#define MML_VERSION_MINOR 1
+#define MML_VERSION_MINOR 2
 
 /* The longest text that is read or printed, in bytes. */
 #define MML_TEXT_MAX 1024u
@@ -223,15 +223,18 @@ enum {
 /*
  * Reads one command. The n-th base letter (D decimal, H hexadecimal, O octal, B binary,
  * K keyed) is the default base of the command's n-th place, counted through all blocks,
- * omitted places included; places past the last letter have D.
+ * omitted places included; places past the last letter have D. These letters are capitals; in
+ * the text a base prefix, a hexadecimal digit and a keyed letter may be small, and the record
+ * holds their capitals. Identifiers and symbolic names are held as they are typed.
  */
 uint64_t mml_read(const uint8_t *text, size_t text_len,
                   const uint8_t *bases, size_t bases_len,
                   uint8_t *out, size_t out_len);
 
 /*
- * Prints a record as a command in its shortest plain form, without comments and spacing. Read
- * with the record's own base letters, the text gives the same record again.
+ * Prints a record as a command in its shortest plain form, without comments and spacing, base
+ * prefixes, hexadecimal digits and keyed letters as capitals. Read with the record's own base
+ * letters, the text gives the same record again.
  */
 uint64_t mml_print(const uint8_t *record, size_t record_len,
                    uint8_t *out, size_t out_len);

@@ -3,8 +3,8 @@ ghost use mathlib.Core.Path.{_≡_};
 ghost use Prim.Native.Nat.{ℕ, _+_, _<_, _≤_};
 ghost use lib.ListN.{length};
 ghost use Rattle.laws.specs.Over.{over};
-ghost use Rattle.rules.specs.Characters.{isLetter, isDigit, isAlnum, isSymbolChar};
-ghost use Rattle.rules.specs.Units.{digitValue, isKey};
+ghost use Rattle.rules.specs.Characters.{capital, isLetter, isDigit, isAlnum, isSymbolChar};
+ghost use Rattle.rules.specs.Units.{digitValue, isKey, isHeldKey};
 ghost use Rattle.rules.specs.Printing.{digitChar};
 ghost use Rattle.digits.specs.Digits.{plainLetter, sizeAt, grown, digitsAt, whole, fixed};
 
@@ -23,6 +23,12 @@ const NO_DIGIT: u8 = 99;
 // The byte ten before A: the digit A counts ten.
 const BEFORE_A: u8 = 55;
 
+// How far a small letter stands behind its capital.
+const SMALL: u8 = 32;
+
+// The byte ten before the small a: as a digit it counts ten too.
+const BEFORE_SMALL_A: u8 = BEFORE_A + SMALL;
+
 // Where a run of digits ends, and its value.
 pub struct Run {
     pub end: usize,
@@ -37,6 +43,16 @@ pub fn is_letter(b: u8) -> bool
         b'A'..=b'Z' => true,
         b'a'..=b'z' => true,
         _ => false,
+    }
+}
+
+// The capital of a small letter; any other byte is its own.
+pub fn capital_of(b: u8) -> u8
+    ensures { λ r. ⌜ r ≡ capital b ⌝ }
+{
+    match b {
+        b'a'..=b'z' => b - SMALL,
+        _ => b,
     }
 }
 
@@ -76,9 +92,9 @@ pub fn is_sign(b: u8) -> bool
     b == b'%'
 }
 
-// A digit of keyed numerals.
-pub fn is_key(b: u8) -> bool
-    ensures { λ r. ⌜ r ≡ isKey b ⌝ }
+// A digit of keyed numerals as records hold it: a letter is a capital.
+pub fn is_held_key(b: u8) -> bool
+    ensures { λ r. ⌜ r ≡ isHeldKey b ⌝ }
 {
     if is_digit(b) {
         return true;
@@ -93,6 +109,13 @@ pub fn is_key(b: u8) -> bool
         b'A'..=b'D' => true,
         _ => false,
     }
+}
+
+// A digit of keyed numerals as it is typed: a letter may be small.
+pub fn is_key(b: u8) -> bool
+    ensures { λ r. ⌜ r ≡ isKey b ⌝ }
+{
+    is_held_key(capital_of(b))
 }
 
 // The letter of a base that has values: D, H, O or B.
@@ -123,13 +146,14 @@ pub fn size(letter: u8) -> u8
     }
 }
 
-// The value of a digit, 0 to 15.
+// The value of a digit, 0 to 15; a letter may be small.
 fn digit(b: u8) -> u8
     ensures { λ r. ⌜ r ≡ digitValue b ⌝ }
 {
     match b {
         b'0'..=b'9' => b - b'0',
         b'A'..=b'F' => b - BEFORE_A,
+        b'a'..=b'f' => b - BEFORE_SMALL_A,
         _ => NO_DIGIT,
     }
 }

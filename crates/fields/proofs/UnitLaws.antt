@@ -1,11 +1,12 @@
 -- The field of a word's unit is the rules' field of the unit that the rules read, since both are by the same kinds.
 use mathlib.Core.Path.{_≡_, refl, sym, ap, _∙_}
-use mathlib.Core.List.{List}
+use mathlib.Core.List.{List, map}
 use Prim.Native.Nat.{ℕ, _+_, _-_}
 use native.Mathlib.Omega.{arith}
-use lib.ListN.{length, drop, take, length-drop}
+use lib.ListN.{length, drop, take, length-drop, length-map}
 use lib.Seq.{take-all}
 use Rattle.laws.specs.Over.{over}
+use Rattle.rules.specs.Characters.{capital}
 use Rattle.rules.specs.Refusals.{ok}
 use Rattle.rules.specs.Units.{Base, letter, Unit, keyed, identifier, symbolic, readWord}
 use Rattle.rules.specs.Records.{fieldBytes, unitField}
@@ -25,7 +26,7 @@ numeral-len w l f v = refl
 
 pub keyed-len : (w : List ℕ) (k : ℕ) → length (unitBytes w (Keyed k)) ≡ 3 + (length w - k)
 unfolding unitBytes
-keyed-len w k = omega (arith, length-drop k w)
+keyed-len w k = omega (arith, length-map (drop k w) capital, length-drop k w)
 
 pub identifier-len : (w : List ℕ) → length (unitBytes w Identifier) ≡ 3 + length w
 unfolding unitBytes
@@ -48,11 +49,11 @@ part-from : (w : List ℕ) (k : ℕ) → take (length w - k) (drop k w) ≡ drop
 part-from w k = take-all (length w - k) (drop k w) (omega (arith, length-drop k w))
 
 pub wrote-keyed : (w : List ℕ) (k : ℕ) {u : Answer} {r : ℕ} (old : List ℕ) {new : List ℕ} → u ≡ Keyed k
-    → (r ≡ 3 + length (take (length w - k) (drop k w))) × (new ≡ over (fieldBytes (unitField (keyed (take (length w - k) (drop k w))))) old) → Wrote w u r new old
+    → (r ≡ 3 + length (take (length w - k) (drop k w))) × (new ≡ over (fieldBytes (unitField (keyed (map capital (take (length w - k) (drop k w)))))) old) → Wrote w u r new old
 unfolding unitBytes
 wrote-keyed w k {u} {r} old e q =
     let z : r ≡ 3 + length (drop k w) = rw (part-from w k) at (q .0) in
-    rw e (omega arith, q .1 ∙ ap (λ (x : List ℕ). over (fieldBytes (unitField (keyed x))) old) (part-from w k))
+    rw e (omega (arith, length-map (drop k w) capital), q .1 ∙ ap (λ (x : List ℕ). over (fieldBytes (unitField (keyed (map capital x)))) old) (part-from w k))
 
 pub wrote-identifier : (w : List ℕ) {u : Answer} {r : ℕ} (old : List ℕ) {new : List ℕ} → u ≡ Identifier → (r ≡ 3 + length w) × (new ≡ over (fieldBytes (unitField (identifier w))) old) → Wrote w u r new old
 unfolding unitBytes

@@ -1,8 +1,9 @@
 -- The field of a word's unit as bytes, from the word and what it was read as.
-use mathlib.Core.List.{List, [], _∷_}
+use mathlib.Core.List.{List, [], _∷_, map}
 use Prim.Native.Nat.{ℕ, _/_, _%_, _≤_}
 use lib.ListN.{length, drop}
 use Rattle.laws.specs.Cases.{Always}
+use Rattle.rules.specs.Characters.{capital}
 use Rattle.rules.specs.Units.{keyed, identifier, symbolic}
 use Rattle.rules.specs.Records.{fourBytes, field, fieldBytes, unitField}
 use Rattle.units.specs.declared.Word.{Word as Answer}
@@ -19,7 +20,7 @@ numeralBytes l f v = fieldBytes (field 7 (l ∷ f ∷ fourBytes v))
 -- a word that is no unit has no field
 unfoldable pub unitBytes : List ℕ → Answer → List ℕ
 unitBytes w (Numeral l f v) = numeralBytes l f v
-unitBytes w (Keyed k) = fieldBytes (unitField (keyed (drop k w)))
+unitBytes w (Keyed k) = fieldBytes (unitField (keyed (map capital (drop k w))))
 unitBytes w Identifier = fieldBytes (unitField (identifier w))
 unitBytes w Symbolic = fieldBytes (unitField (symbolic w))
 unitBytes w Unreadable = []

@@ -1,9 +1,10 @@
 // Tagged fields of records. Each writer is lent the buffer from its field's start on, and says every byte of it.
 ghost use mathlib.Core.Path.{_≡_};
-ghost use mathlib.Core.List.{[], _∷_};
+ghost use mathlib.Core.List.{[], _∷_, map};
 ghost use Prim.Native.Nat.{_+_, _*_, _≤_, _<_};
 ghost use lib.ListN.{length};
 ghost use Rattle.laws.specs.Over.{over};
+ghost use Rattle.rules.specs.Characters.{capital};
 ghost use Rattle.rules.specs.Records.{field, fieldBytes};
 ghost use Rattle.fields.specs.Units.{twoBytes, numeralBytes, unitBytes, Skips};
 
@@ -83,6 +84,27 @@ pub fn put_bytes(out: &mut [u8], content: &[u8])
     }
 }
 
+// Writes the capitals of the content, each straight to its place.
+fn put_capitals(out: &mut [u8], content: &[u8])
+    requires { ⌜ length (now content) ≤ length (now out) ⌝ }
+    ensures { λ r. ⌜ now (out .exit) ≡ over (map capital (now (content .entry))) (now (out .entry)) ⌝ }
+{
+    let mut i = 0;
+    while i < content.len() {
+        out[i] = digits::capital_of(content[i]);
+        i += 1;
+    }
+}
+
+// Writes what stands before a field's content: the tag, and the content's length in two bytes.
+fn put_header(out: &mut [u8], tag: u8, n: u16)
+    requires { ⌜ 3 ≤ length (now out) ⌝ }
+    ensures { λ r. ⌜ now (out .exit) ≡ over (tag ∷ twoBytes n) (now (out .entry)) ⌝ }
+{
+    put_u8(out, tag);
+    put_u16(&mut out[1..], n);
+}
+
 // Writes a field: tag, length in two bytes, content. Returns how many bytes it wrote.
 pub fn put_field(out: &mut [u8], tag: u8, content: &[u8]) -> usize
     requires { ⌜ (length (now content) < 65536) × (3 + length (now content) ≤ length (now out)) ⌝ }
@@ -90,9 +112,20 @@ pub fn put_field(out: &mut [u8], tag: u8, content: &[u8]) -> usize
         × (now (out .exit) ≡ over (fieldBytes (field tag (now (content .entry)))) (now (out .entry))) ⌝ }
 {
     let n = content.len();
-    put_u8(out, tag);
-    put_u16(&mut out[1..], n as u16);
+    put_header(out, tag, n as u16);
     put_bytes(&mut out[HEADER..], content);
+    HEADER + n
+}
+
+// Writes the field of a keyed numeral, its letters as capitals. Returns how many bytes it wrote.
+fn put_keyed(out: &mut [u8], content: &[u8]) -> usize
+    requires { ⌜ (length (now content) < 65536) × (3 + length (now content) ≤ length (now out)) ⌝ }
+    ensures { λ r. ⌜ (r ≡ 3 + length (now (content .entry)))
+        × (now (out .exit) ≡ over (fieldBytes (field 8 (map capital (now (content .entry))))) (now (out .entry))) ⌝ }
+{
+    let n = content.len();
+    put_header(out, KEYED, n as u16);
+    put_capitals(&mut out[HEADER..], content);
     HEADER + n
 }
 
@@ -146,7 +179,7 @@ pub fn put_unit(out: &mut [u8], word: &[u8], unit: units::Word) -> usize
             put_numeral(out, letter, fraction, value);
             NUMERAL_FIELD
         }
-        units::Word::Keyed { skip } => put_field(out, KEYED, &word[skip..]),
+        units::Word::Keyed { skip } => put_keyed(out, &word[skip..]),
         units::Word::Identifier => put_field(out, IDENTIFIER, word),
         units::Word::Symbolic => put_field(out, SYMBOLIC, word),
         units::Word::Unreadable => 0,

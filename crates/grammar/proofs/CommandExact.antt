@@ -343,7 +343,7 @@ not-same : (s t : Sep) → isJoiner s ≡ false → isJoiner t ≡ true → noSe
 not-same s t h k = byBool (eqb (sepCode s) (sepCode t)) (λ y. absurd (false≢true (sym h ∙ ap isJoiner (sep-same s t y) ∙ k))) (λ y. rw y)
 
 unit-free : (s : Sep) {b : Base} {x : Lex} {i : Rattle.rules.specs.Units.Unit} → UnitOf b x i → noSep s x ≡ true
-unit-free s (prefixed al n) = refl
+unit-free s (prefixed e al n) = refl
 unit-free s (bare n) = refl
 unit-free s (asIdentifier d h) = refl
 unit-free s (asSymbolic d n h) = refl

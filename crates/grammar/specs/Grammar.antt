@@ -9,7 +9,7 @@ use lib.Dec.{eqb}
 use lib.ListN.{length}
 use Rattle.laws.specs.Lists.{all, any, isNil}
 use Rattle.rules.specs.Refusals.{mostLetters, mostText, mostString, moreOfCode, moreOfName, mostBlocks, mostPlaces, mostLeading, mostElements, mostArguments, mostOrders, mostValue, mostFraction}
-use Rattle.rules.specs.Characters.{byte, isEffector, isPermitted, isWordChar}
+use Rattle.rules.specs.Characters.{byte, capital, isEffector, isPermitted, isWordChar}
 use Rattle.rules.specs.Tokens.{Sep, ampamp-, ampamp, amp-, amp, plusplus, dash, comma, colon, equals, semi, Lex, word, str, sep, wordMost}
 use Rattle.rules.specs.Units.{Radix, rD, Base, plain, keys, size, letter, Unit, num, keyed, identifier, symbolic, text, digitValue, isDigitOf, isKey, runOf, isIdentifier, isSymbolicName, allowed}
 use Rattle.rules.specs.Commands.{Element, single, range, Place, place, Block, block, Command, command, placeBase, placeName, allPlaces, valueCount, placeCount, mult, isPiece}
@@ -115,21 +115,22 @@ pub data Writes (r : Radix) : Text → ℕ → Type 0 where
   digits : {w : Text} {v : ℕ} (c : ℕ) → Writes r w v → isDigitOf r c ≡ true → Writes r (w ++ (c ∷ [])) (v * size r + digitValue c)
 
 -- a numeral's characters after its prefix: "values to 4,294,967,295 and at most 9 fraction digits"; "A decimal numeral may have one full stop with a
--- digit on each side. It is held as the whole number without the stop and the count of fraction digits"; "Keyed numerals keep all their characters"
+-- digit on each side. It is held as the whole number without the stop and the count of fraction digits"; "Keyed numerals keep all their characters"; M-109: "records
+-- hold capitals"
 pub data Numeral : Base → Text → Unit → Type 0 where
   whole : {r : Radix} {w : Text} {v : ℕ} → Writes r w v → v ≤ mostValue → Numeral (plain r) w (num r 0 v)
   stopped : (a d : Text) {v : ℕ} → isNil a ≡ false → isNil d ≡ false → Writes rD (a ++ d) v → v ≤ mostValue → length d ≤ mostFraction
       → Numeral (plain rD) (a ++ (byte "." ∷ d)) (num rD (length d) v)
-  dialled : {w : Text} → runOf isKey w ≡ true → Numeral keys w (keyed w)
+  dialled : {w : Text} → runOf isKey w ≡ true → Numeral keys w (keyed (map capital w))
 
 -- all its characters are digits of the base
 abbrev pub digitsOf : Base → Text → Bool
 digitsOf (plain r) w = runOf (isDigitOf r) w
 digitsOf keys w = runOf isKey w
 
--- a unit under its place's base, rules 1 to 4 and a string; "Under default K only K is allowed."
+-- a unit under its place's base, rules 1 to 4 and a string; "Under default K only K is allowed."; M-109: "a base prefix .. may be small"
 pub data UnitOf (b : Base) : Lex → Unit → Type 0 where
-  prefixed : {a : Base} {w : Text} {i : Unit} → allowed b a ≡ true → Numeral a w i → UnitOf b (word (letter a ∷ byte "'" ∷ w)) i
+  prefixed : {a : Base} {c : ℕ} {w : Text} {i : Unit} → capital c ≡ letter a → allowed b a ≡ true → Numeral a w i → UnitOf b (word (c ∷ byte "'" ∷ w)) i
   bare : {w : Text} {i : Unit} → Numeral b w i → UnitOf b (word w) i
   asIdentifier : {w : Text} → digitsOf b w ≡ false → isIdentifier w ≡ true → UnitOf b (word w) (identifier w)
   asSymbolic : {w : Text} → digitsOf b w ≡ false → isIdentifier w ≡ false → isSymbolicName w ≡ true → UnitOf b (word w) (symbolic w)

@@ -47,6 +47,16 @@ pub all-append : {A : Type 0} (f : A → Bool) (xs ys : List A) → all f xs ≡
 all-append f [] ys h k = k
 all-append f (x ∷ xs) ys h k = byBool (f x) (λ y. rw y (all-append f xs ys (rw y at h) k)) (λ y. absurd (false≢true (rw y at h)))
 
+pub all-concat : {A : Type 0} (f : A → Bool) (xss : List (List A)) → all (all f) xss ≡ true → all f (concat xss) ≡ true
+all-concat f [] h = refl
+all-concat f (xs ∷ xss) h =
+    all-append f xs (concat xss) (and-l (all f xs) (all (all f) xss) h) (all-concat f xss (and-r (all f xs) (all (all f) xss) h))
+
+-- what holds of all holds of each
+pub all-member : {A : Type 0} (f : A → Bool) (xs : List A) (y : A) (ys : List A) → all f (xs ++ (y ∷ ys)) ≡ true → f y ≡ true
+all-member f [] y ys h = and-l (f y) (all f ys) h
+all-member f (x ∷ xs) y ys h = all-member f xs y ys (and-r (f x) (all f (xs ++ (y ∷ ys))) h)
+
 pub any-append : (f : ℕ → Bool) (xs ys : List ℕ) → any f xs ≡ false → any f ys ≡ false → any f (xs ++ ys) ≡ false
 any-append f [] ys h k = k
 any-append f (x ∷ xs) ys h k = byBool (f x) (λ y. absurd (false≢true (sym h ∙ rw y))) (λ y. rw y (any-append f xs ys (rw y at h) k))

@@ -19,3 +19,7 @@ in-range f a (suc n) h b l u =
     byBool (eqb a b)
     (λ y. subst (λ m. f m ≡ true) (eqb-true a b y) (and-l (f a) (alike f (suc a) n) h))
     (λ y. in-range f (suc a) n (and-r (f a) (alike f (suc a) n) h) b (lt-of-le-ne l (eqb-false a b y)) (omega arith))
+
+-- two functions that are computed alike at each number of a range are equal there
+pub equal-in-range : (f g : ℕ → ℕ) (a n : ℕ) → alike (λ x. eqb (f x) (g x)) a n ≡ true → (b : ℕ) → a ≤ b → b < a + n → f b ≡ g b
+equal-in-range f g a n h b l u = eqb-true (f b) (g b) (in-range (λ x. eqb (f x) (g x)) a n h b l u)

@@ -11,7 +11,7 @@ use Rattle.laws.specs.Cases.{and-l, and-r}
 use Rattle.laws.specs.Lists.{all, isNil, all-append}
 use Rattle.rules.specs.Characters.{isPermitted}
 use Rattle.rules.specs.Tokens.{wordChars}
-use Rattle.rules.specs.Units.{Radix, rD, rH, rO, rB, Base, plain, letter, Unit, num, keyed, identifier, symbolic, text, isKey, runOf, numeral, isIdentifier, isSymbolicName, allowed}
+use Rattle.rules.specs.Units.{Radix, rD, rH, rO, rB, Base, plain, letter, Unit, num, keyed, identifier, symbolic, text, isHeldKey, runOf, numeral, isIdentifier, isSymbolicName, allowed}
 use Rattle.rules.specs.Commands.{Element, single, range, Place, place, Block, block, Command, command, leading, lastUnit, isPiece}
 use Rattle.rules.specs.Records.{Field, field, unitField, elementFields, many, placeFields, blockFields, fieldsOf}
 use Rattle.rules.specs.WellFormed.{isNone, isDecimal, okFraction, wfUnit, wfElement, wfValue, short, wfPieces, wfPlace, wfBlock, wellFormed}
@@ -41,7 +41,7 @@ unit-fits : (b : Base) (i : Unit) → wfUnit b i ≡ true → fieldFits (tagIn (
 unfolding fieldFits
 unit-fits b (num r f v) h =
     rw (few-digits r f (and-r (allowed b (plain r)) (okFraction r f) (and-l (allowed b (plain r) && okFraction r f) (leb v 4294967295) h)))
-unit-fits b (keyed w) h = rw (small w 32 (omega arith) (and-r (runOf isKey w) (leb (length w) 32) h))
+unit-fits b (keyed w) h = rw (small w 32 (omega arith) (and-r (runOf isHeldKey w) (leb (length w) 32) h))
 unit-fits b (identifier w) h = rw (small w 32 (omega arith) (and-r (isIdentifier w && isNone (numeral b w)) (leb (length w) 32) h))
 unit-fits b (symbolic w) h =
     rw (small w 32 (omega arith) (and-l (leb (length w) 32) (wordChars false w)

@@ -203,9 +203,24 @@ fn words_2() {
     word(b"1A", b'H');
 }
 
+// Words under a base whose letters are small.
+fn words_3() {
+    word(b"cafe", b'H');
+    word(b"cafe", b'D');
+    word(b"cafg", b'H');
+    word(b"fffffffff", b'H');
+    word(b"h'fF", b'D');
+    word(b"h'g", b'D');
+    word(b"d'19.5", b'H');
+    word(b"d'1", b'K');
+    word(b"abe", b'K');
+    word(b"1a", b'D');
+}
+
 fn main() {
     texts_1();
     texts_2();
     words_1();
     words_2();
+    words_3();
 }

@@ -10,6 +10,7 @@ use borrow.Author.Tests.{ne-eqb}
 use lib.Dec.{leb, ltb, eqb}
 use lib.ListN.{length, getD, take, drop, length-append}
 use Rattle.laws.specs.Cases.{byBool, pick-all, pick-if}
+use Rattle.rules.specs.Characters.{capital}
 use Rattle.rules.specs.Commands.{Element, single, range, leading, lastUnit}
 use Rattle.rules.specs.Groups.{Join}
 use Rattle.rules.specs.Records.{Field, field, fourBytes, unitField, fieldBytes, bytesOf, elementFields}
@@ -74,7 +75,7 @@ pub skips : (l : ℕ) (w : List ℕ) → Skips w (unitUnder l w)
 unfolding unitUnder prefixUnit
 skips l w =
     pick-if (Skips w) (eqb (getD w 1 0) 39)
-    (λ y. pick-all (Skips w) (mayStand l (getD w 0 0)) (numeral-skips w (getD w 0 0) 2 (numeral (baseAt (getD w 0 0)) (drop 2 w)) (marked w y)) tt)
+    (λ y. let p : ℕ = capital (getD w 0 0) in pick-all (Skips w) (mayStand l p) (numeral-skips w p 2 (numeral (baseAt p) (drop 2 w)) (marked w y)) tt)
     (λ y. name-skips w (ofNumeral l 0 (numeral (baseAt l) w)) (numeral-skips w l 0 (numeral (baseAt l) w) (omega arith)))
 
 word-small : (w : List ℕ) (u : Word) → length w ≤ 65535 → length (unitBytes w u) ≤ 65538

@@ -87,16 +87,15 @@ pub fn write_phrase(
 12 K place $n has base K (keyed):
 12 ' a ' stands only behind D, H, O, B or K at a numeral's start
 12 u $c' is none of the prefixes D' H' O' B' K'
-12 s the prefix is a capital letter, $c'
 12 y only the prefix K' is allowed
 12 m digits are missing behind $c'
 12 p behind $c' the digits are
 12 g the digits are
 12 d 0 to 9, with one full stop between them if need be
-12 h 0 to 9 and A to F
+12 h 0 to 9 and A to F, capital or small
 12 o 0 to 7
 12 b 0 and 1
-12 k 0 to 9, *, # and A to D
+12 k 0 to 9, *, # and A to D, capital or small
 12 t a numeral has one full stop at most
 12 e a full stop needs a digit on each side
 12 n a full stop may stand only between decimal digits
@@ -104,7 +103,7 @@ pub fn write_phrase(
 12 w a fraction is decimal and begins with D': D'$y
 12 q a full stop may stand only in strings
 12 * a * is a digit of keyed numerals alone, as in K'*21#
-12 # the keyed digits are 0 to 9, *, # and A to D
+12 # the keyed digits are 0 to 9, *, # and A to D, capital or small
 13 . a number over 4,294,967,295, or over 9 fraction digits
 13 f the fraction has $n digits; 9 are allowed
 13 s without its full stop the numeral is above 4,294,967,295

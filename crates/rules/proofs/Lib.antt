@@ -1,6 +1,7 @@
 pub mod ResultLaws
 pub mod Counts
 pub mod Names
+pub mod CapitalLaws
 pub mod UnitBack
 pub mod ScanBack
 pub mod ScanLength
@@ -12,6 +13,7 @@ pub mod ValueSound
 pub mod ScanSound
 pub mod ReadSound
 pub mod NamesDiffer
+pub mod Capitals
 pub mod UnitLength
 pub mod ValueLength
 pub mod NeverLonger

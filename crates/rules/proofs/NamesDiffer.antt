@@ -1,10 +1,10 @@
 -- M-102: in what is read no name stands twice in its block.
 use Prim.Native.Nat.{ℕ}
 use mathlib.Core.Path.{_≡_, subst}
-use mathlib.Core.Bool.{Bool, true, false, not, false≢true}
+use mathlib.Core.Bool.{true, false, not, false≢true}
 use mathlib.Core.List.{List, [], _∷_, _++_, map}
 use Rattle.laws.specs.Cases.{byBool, and-l, and-r}
-use Rattle.laws.specs.Lists.{all, any}
+use Rattle.laws.specs.Lists.{all, any, all-member}
 use Rattle.rules.specs.Commands.{Name, Place, Block, block, command, placeName, sameName}
 use Rattle.rules.specs.Reading.{read}
 use Rattle.rules.specs.Refusals.{ok}
@@ -12,10 +12,6 @@ use Rattle.rules.specs.WellFormed.{wfBlock, namesDiffer}
 use Rattle.rules.proofs.CommandBack.{c-blocks}
 use Rattle.rules.proofs.Names.{name-refl, block-names}
 use Rattle.rules.proofs.ReadSound.{read-wf}
-
-member : {A : Type 0} (f : A → Bool) (xs : List A) (y : A) (ys : List A) → all f (xs ++ (y ∷ ys)) ≡ true → f y ≡ true
-member f [] y ys h = and-l (f y) (all f ys) h
-member f (x ∷ xs) y ys h = member f xs y ys (and-r (f x) (all f (xs ++ (y ∷ ys))) h)
 
 among : (nm : List (List ℕ)) (ys : List Place) (q : Place) (zs : List Place) → not (any (sameName nm) (map placeName (ys ++ (q ∷ zs)))) ≡ true
     → nm ≡ placeName q → ⊥
@@ -41,4 +37,4 @@ names-differ letters text code before xs p ys q zs behind h e =
     let ps : List Place = xs ++ (p ∷ (ys ++ (q ∷ zs))) in
     let bl : List Block = before ++ (block true ps ∷ behind) in
     let hb : all wfBlock bl ≡ true = c-blocks code bl (read-wf letters text (command code bl) h) in
-    names-apart xs p ys q zs (block-names true ps (member wfBlock before (block true ps) behind hb)) e
+    names-apart xs p ys q zs (block-names true ps (all-member wfBlock before (block true ps) behind hb)) e

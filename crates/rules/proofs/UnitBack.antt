@@ -2,7 +2,7 @@
 use Prim.Native.Nat.{ℕ, zero, suc, _+_, _*_, _/_, _%_, _^_, _≤_, _<_}
 use mathlib.Core.Path.{_≡_, refl, sym, ap, _∙_}
 use mathlib.Core.Bool.{Bool, true, false, _&&_, _||_, not, false≢true}
-use mathlib.Core.List.{List, [], _∷_, _++_}
+use mathlib.Core.List.{List, [], _∷_, _++_, map}
 use mathlib.Core.Option.{Option, none, some}
 use Prim.Native.Nat.{suc-le-suc}
 use native.Mathlib.Nat.{add-zero, zero-add, zero-mul, pow-suc, pow-zero, mod-lt, div-add-mod', div-lt-iff-lt-mul, le-trans, lt-of-le-of-lt, mod-one, mul-one, mul-pos, div-le-self}
@@ -13,12 +13,13 @@ use lib.ListN.{length, length-append}
 use borrow.Author.Tests.{eqb-true, not-true, ltb-true, ltb-false, leb-true, le-leb, lt-ltb, lt-leb}
 use Rattle.laws.specs.Cases.{byBool, and-l, and-r, and-false}
 use Rattle.laws.specs.Lists.{all, any, isNil, all-append, snoc-some, all-broken, any-append}
-use Rattle.rules.specs.Characters.{isLetter, isDigit, isAlnum, isSymbolChar}
+use Rattle.rules.specs.Characters.{capital, isLetter, isDigit, isAlnum, isSymbolChar}
 use Rattle.rules.specs.Printing.{digitChar, digits, digitsOf, numText, prefixed, unitLex}
 use Rattle.rules.specs.Refusals.{ok}
 use Rattle.rules.specs.Tokens.{wordChars}
-use Rattle.rules.specs.Units.{Radix, rD, rH, rO, rB, Base, plain, keys, size, letter, Unit, num, keyed, identifier, symbolic, text, sameBase, readUnit, digitValue, isDigitOf, isKey, valueFrom, runOf, atStop, numeral, baseOf, limited, isIdentifier, isSymbolicName, allowed, prefixNumeral, withMark, readWord}
+use Rattle.rules.specs.Units.{Radix, rD, rH, rO, rB, Base, plain, keys, size, letter, Unit, num, keyed, identifier, symbolic, text, sameBase, readUnit, digitValue, isDigitOf, isKey, isHeldKey, valueFrom, runOf, atStop, numeral, baseOf, limited, isIdentifier, isSymbolicName, allowed, prefixNumeral, withMark, readWord}
 use Rattle.rules.specs.WellFormed.{isNone, isDecimal, okFraction, wfUnit}
+use Rattle.rules.proofs.CapitalLaws.{letter-capital, held-run, held-capitals}
 
 -- ---- a digit
 
@@ -30,7 +31,7 @@ digit-back n h =
     rw (y, le-leb 48 (48 + n) (omega arith), le-leb (48 + n) 57 (omega arith)) (omega arith))
     (λ y.
     let le : 10 ≤ n = ltb-false n 10 y in
-    rw (y, le-leb 48 (55 + n) (omega arith), lt-leb (55 + n) 57 (omega arith), le-leb 65 (55 + n) (omega arith), le-leb (55 + n) 70 (omega arith)) (omega arith))
+    rw (y, le-leb 48 (55 + n) (omega arith), lt-leb (55 + n) 57 (omega arith), lt-leb 97 (55 + n) (omega arith), le-leb 65 (55 + n) (omega arith), le-leb (55 + n) 70 (omega arith)) (omega arith))
 
 pub size-least : (r : Radix) → 2 ≤ size r
 size-least rD = lit≤ tt
@@ -217,7 +218,7 @@ pub word-back : (d b : Base) (w : List ℕ) (i : Unit) (p : ℕ) → any (λ c. 
 word-back d b w i p nm al nu lim =
     byBool (sameBase d b)
     (λ y. rw (y, same-base d b y) (rw (nm, readWord) (rw (nu, lim))))
-    (λ y. rw y (rw (letter-mark b true, readWord) (rw (base-back b, withMark) (rw (al, prefixNumeral) (rw (nu, lim))))))
+    (λ y. rw y (rw (letter-mark b true, readWord) (rw (letter-capital b, withMark) (rw (al, prefixNumeral) (rw (nu, lim))))))
 
 pub none-is : (o : Option Unit) → isNone o ≡ true → o ≡ none
 none-is none h = refl
@@ -237,8 +238,10 @@ item-back b (num r f v) p h =
     word-back b (plain r) (numText r f v) (num r f v) p (no-mark-num r f v) (and-l a o (and-l (a && o) l h)) (numeral-back r f v ho hl)
     (rw (hl, few r f ho))
 item-back b (keyed w) p h =
-    let k : runOf isKey w ≡ true = and-l (runOf isKey w) (leb (length w) 32) h in
-    word-back b keys w (keyed w) p (no-mark isKey refl w (and-r (not (isNil w)) (all isKey w) k)) (keys-allowed b) (rw k) refl
+    let held : runOf isHeldKey w ≡ true = and-l (runOf isHeldKey w) (leb (length w) 32) h in
+    let k : runOf isKey w ≡ true = held-run w held in
+    let same : map capital w ≡ w = held-capitals w (and-r (not (isNil w)) (all isHeldKey w) held) in
+    word-back b keys w (keyed w) p (no-mark isKey refl w (and-r (not (isNil w)) (all isKey w) k)) (keys-allowed b) (rw (k, same)) refl
   where
     keys-allowed : (b : Base) → allowed b keys ≡ true
     keys-allowed (plain r) = refl

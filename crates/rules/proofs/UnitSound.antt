@@ -2,18 +2,20 @@
 use Prim.Native.Nat.{ℕ, zero, suc, _≤_}
 use mathlib.Core.Path.{_≡_, refl, sym, _∙_}
 use mathlib.Core.Bool.{Bool, true, false, _&&_, _||_, false≢true}
-use mathlib.Core.List.{List, [], _∷_, _++_}
+use mathlib.Core.List.{List, [], _∷_, _++_, map}
 use mathlib.Core.Option.{none, some}
 use native.Mathlib.Omega.{arith}
 use lib.Dec.{leb, eqb, eqb·suc-zero}
-use lib.ListN.{length}
+use lib.ListN.{length, length-map}
 use borrow.Author.Tests.{le-leb}
 use Rattle.laws.specs.Cases.{byBool, and-l, and-r, byOption, some-inj, none≢some, cond-some}
 use Rattle.laws.specs.Lists.{any}
+use Rattle.rules.specs.Characters.{capital}
 use Rattle.rules.specs.Refusals.{ok, bad, _>>=_}
 use Rattle.rules.specs.Tokens.{wordChars, wordMost}
-use Rattle.rules.specs.Units.{Radix, rD, rH, rO, rB, Base, plain, keys, Unit, num, keyed, identifier, symbolic, text, isDigitOf, isKey, valueFrom, runOf, atStop, fraction, numeral, baseOf, limited, orElse, isIdentifier, isSymbolicName, named, allowed, prefixNumeral, withMark, readWord}
+use Rattle.rules.specs.Units.{Radix, rD, rH, rO, rB, Base, plain, keys, Unit, num, keyed, identifier, symbolic, text, isDigitOf, isKey, isHeldKey, valueFrom, runOf, atStop, fraction, numeral, baseOf, limited, orElse, isIdentifier, isSymbolicName, named, allowed, prefixNumeral, withMark, readWord}
 use Rattle.rules.specs.WellFormed.{wfUnit, okFraction, isDecimal}
+use Rattle.rules.proofs.CapitalLaws.{keys-held}
 use Rattle.rules.proofs.ResultLaws.{ok-inj, ok≢bad, cond-ok}
 
 -- ---- inverting results
@@ -23,7 +25,7 @@ use Rattle.rules.proofs.ResultLaws.{ok-inj, ok≢bad, cond-ok}
 -- what a numeral's characters give, its size apart
 abbrev pub shape : Base → Unit → Bool
 shape d (num r f v) = allowed d (plain r) && (eqb f 0 || isDecimal r)
-shape d (keyed w) = runOf isKey w && leb (length w) 32
+shape d (keyed w) = runOf isHeldKey w && leb (length w) 32
 shape d (identifier w) = false
 shape d (symbolic w) = false
 shape d (text w) = false
@@ -59,12 +61,17 @@ fraction-shape d rH w i ha h = none≢some h
 fraction-shape d rO w i ha h = none≢some h
 fraction-shape d rB w i ha h = none≢some h
 
+run-held : (w : List ℕ) → runOf isKey w ≡ true → runOf isHeldKey (map capital w) ≡ true
+run-held [] h = h
+run-held (c ∷ w) h = keys-held (c ∷ w) h
+
 pub numeral-shape : (d b : Base) (w : List ℕ) (i : Unit) → allowed d b ≡ true → leb (length w) 32 ≡ true → numeral b w ≡ some i → shape d i ≡ true
 numeral-shape d (plain r) w i ha hl h =
     byBool (runOf (isDigitOf r) w)
     (λ y. rw (← (some-inj (rw (y, numeral) at h))) (rw ha))
     (λ y. fraction-shape d r w i ha (rw (y, numeral) at h))
-numeral-shape d keys w i ha hl h = cond-some (runOf isKey w) (keyed w) i h (λ t e. rw (← e) (rw (t, hl)))
+numeral-shape d keys w i ha hl h =
+    cond-some (runOf isKey w) (keyed (map capital w)) i h (λ t e. rw (← e) (rw (run-held w t, length-map w capital, hl)))
 
 pub allowed-self : (d : Base) → allowed d d ≡ true
 allowed-self (plain r) = refl
@@ -89,7 +96,7 @@ mark-wf d p (c ∷ m ∷ w) i hl h =
     byBool (eqb m 39)
     (λ y.
     let short : length w ≤ 32 = omega (arith, rw y at hl) in
-    byOption (baseOf c)
+    byOption (baseOf (capital c))
     (λ z. ok≢bad (rw z at (rw (y, withMark) at h)))
     (λ b z.
     byBool (allowed d b)

@@ -4,7 +4,7 @@ use mathlib.Core.Bool.{Bool, true, false, cond, _&&_, _||_}
 use mathlib.Core.List.{List, [], _∷_, _++_, map}
 use mathlib.Core.Option.{Option, none, some}
 use lib.Dec.{eqb}
-use Rattle.laws.specs.Lists.{eqL}
+use Rattle.laws.specs.Lists.{eqL, concat}
 use Rattle.rules.specs.Refusals.{Res, ok, bad, mapR}
 use Rattle.rules.specs.Characters.{isDigit}
 use Rattle.rules.specs.Tokens.{Sep, dash, sepCode, Lex, word, str, sep, Token, posOf, lexOf}
@@ -62,6 +62,19 @@ placesOf (block k ps) = ps
 abbrev pub allPlaces : List Block → List Place
 allPlaces [] = []
 allPlaces (b ∷ bs) = placesOf b ++ allPlaces bs
+
+-- ---- units
+
+-- "An element is followed by its units, leading ones repeated in full": a range's last unit is its lower end
+abbrev pub elementUnits : Element → List Unit
+elementUnits e = leading e ++ (lastUnit e ∷ [])
+
+abbrev pub placeUnits : Place → List Unit
+placeUnits (place b nm v) = concat (map elementUnits v)
+
+-- the units of a command, place by place
+abbrev pub commandUnits : Command → List Unit
+commandUnits (command c bs) = concat (map placeUnits (allPlaces bs))
 
 -- ---- numbers of arguments
 

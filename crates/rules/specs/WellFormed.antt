@@ -10,7 +10,7 @@ use Rattle.laws.specs.Lists.{all, any, eqL, isNil}
 use Rattle.rules.specs.Refusals.{Res, ok, bad, _>>=_, guard, notWellFormed, mostWord, mostString, moreOfCode, moreOfName, mostBlocks, mostPlaces, mostLeading, mostElements, mostArguments, mostOrders, mostValue, mostFraction}
 use Rattle.rules.specs.Characters.{isPermitted}
 use Rattle.rules.specs.Tokens.{wordChars}
-use Rattle.rules.specs.Units.{Radix, rD, rH, rO, rB, Base, plain, Unit, num, keyed, identifier, symbolic, text, isKey, runOf, numeral, isIdentifier, isSymbolicName, allowed}
+use Rattle.rules.specs.Units.{Radix, rD, rH, rO, rB, Base, plain, Unit, num, keyed, identifier, symbolic, text, isHeldKey, runOf, numeral, isIdentifier, isSymbolicName, allowed}
 use Rattle.rules.specs.Commands.{Element, single, range, Name, Place, place, placeName, sameName, Block, block, Command, command, leading, lastUnit, allPlaces, mult, valueCount, placeCount, isPiece}
 use Rattle.rules.specs.Records.{encode, decode}
 
@@ -35,7 +35,7 @@ okFraction r (suc f) = isDecimal r && leb (suc f) mostFraction
 -- has no `++`; a string has permitted bytes alone
 abbrev pub wfUnit : Base → Unit → Bool
 wfUnit b (num r f v) = allowed b (plain r) && okFraction r f && leb v mostValue
-wfUnit b (keyed w) = runOf isKey w && leb (length w) mostWord
+wfUnit b (keyed w) = runOf isHeldKey w && leb (length w) mostWord
 wfUnit b (identifier w) = isIdentifier w && isNone (numeral b w) && leb (length w) mostWord
 wfUnit b (symbolic w) =
     isSymbolicName w && not (isIdentifier w) && isNone (numeral b w) && (leb (length w) mostWord && wordChars false w)

@@ -13,7 +13,7 @@ use Rattle.laws.specs.Lists.{all, allAt, next}
 use Rattle.rules.specs.Refusals.{mostValue, mostFraction, mostWord}
 use Rattle.rules.specs.Characters.{byte, isWordChar}
 use Rattle.rules.specs.Tokens.{wordChars}
-use Rattle.rules.specs.Units.{Radix, Base, plain, keys, Unit, num, keyed, identifier, symbolic, text, isKey, runOf, numeral, baseOf, radixAt, baseAt, isIdentifier, isSymbolicName}
+use Rattle.rules.specs.Units.{Radix, Base, plain, keys, Unit, num, keyed, identifier, symbolic, text, isHeldKey, runOf, numeral, baseOf, radixAt, baseAt, isIdentifier, isSymbolicName}
 use Rattle.rules.specs.Records.{numOf, num4}
 use Rattle.rules.specs.WellFormed.{isNone, wfUnit, okFraction, isDecimal}
 use Rattle.digits.specs.Digits.{plainLetter}
@@ -81,17 +81,17 @@ none-is l w e = ap unread e ∙ unread-of l 0 w (numeral (baseAt l) w) (numeral-
 
 -- ---- keyed numerals
 
-pub keyed-empty : (w : List ℕ) → length w ≡ 0 → false ≡ runOf isKey w && leb (length w) mostWord
+pub keyed-empty : (w : List ℕ) → length w ≡ 0 → false ≡ runOf isHeldKey w && leb (length w) mostWord
 keyed-empty [] h = refl
 keyed-empty (c ∷ cs) h = absurd (omega arith)
 
-pub keyed-long : (w : List ℕ) → mostWord < length w → false ≡ runOf isKey w && leb (length w) mostWord
-keyed-long w h = rw (lt-leb (length w) mostWord h) (sym (and-false (runOf isKey w)))
+pub keyed-long : (w : List ℕ) → mostWord < length w → false ≡ runOf isHeldKey w && leb (length w) mostWord
+keyed-long w h = rw (lt-leb (length w) mostWord h) (sym (and-false (runOf isHeldKey w)))
 
-pub keyed-all : (w : List ℕ) {t : Bool} → (length w ≡ 0 → ⊥) → length w ≤ mostWord → t ≡ allAt isKey w 0 → t ≡ runOf isKey w && leb (length w) mostWord
+pub keyed-all : (w : List ℕ) {t : Bool} → (length w ≡ 0 → ⊥) → length w ≤ mostWord → t ≡ allAt isHeldKey w 0 → t ≡ runOf isHeldKey w && leb (length w) mostWord
 unfolding allAt
 keyed-all [] n h e = absurd (n refl)
-keyed-all (c ∷ cs) n h e = rw (le-leb (length (c ∷ cs)) mostWord h, and-true (all isKey (c ∷ cs))) e
+keyed-all (c ∷ cs) n h e = rw (le-leb (length (c ∷ cs)) mostWord h, and-true (all isHeldKey (c ∷ cs))) e
 
 -- ---- names: the rules' chain of tests, over any outcomes of them
 

@@ -5,7 +5,7 @@ ghost use Prim.Native.Nat.{ℕ};
 ghost use lib.ListN.{getD};
 ghost use Rattle.laws.specs.Lists.{allAt};
 ghost use Rattle.rules.specs.Characters.{isPermitted, isWordChar};
-ghost use Rattle.rules.specs.Units.{numeral, keyed, identifier, symbolic, text, baseAt, radixAt};
+ghost use Rattle.rules.specs.Units.{isHeldKey, numeral, keyed, identifier, symbolic, text, baseAt, radixAt};
 ghost use Rattle.rules.specs.WellFormed.{isNone, wfUnit, okFraction};
 ghost use Rattle.digits.specs.Digits.{plainLetter};
 ghost use Rattle.seen.specs.Seen.{okAt, standsAs, fieldSeen, unitSeen};
@@ -103,6 +103,21 @@ fn all_permitted(word: &[u8]) -> bool
     true
 }
 
+// Whether all are keyed digits as records hold them: no letter is small.
+fn all_held_keys(word: &[u8]) -> bool
+    ensures { λ r. ⌜ r ≡ allAt isHeldKey (now (word .entry)) 0 ⌝ }
+{
+    let mut i = 0;
+    while i < word.len() {
+        if digits::is_held_key(word[i]) {
+            i += 1;
+        } else {
+            return false;
+        }
+    }
+    true
+}
+
 // Whether the word is no numeral of the base.
 fn no_numeral(word: &[u8], base: u8) -> bool
     ensures { λ r. ⌜ r ≡ isNone (numeral (baseAt base) (now (word .entry))) ⌝ }
@@ -123,7 +138,7 @@ fn keyed_stands(word: &[u8], base: u8) -> bool
     if MOST_WORD < word.len() {
         return false;
     }
-    units::all_keys(word, 0)
+    all_held_keys(word)
 }
 
 // Whether the content may stand as an identifier.

@@ -59,7 +59,7 @@ pub fn why_base(bases: &[u8], place: usize) -> Hint {
 // Why a byte is no base letter.
 fn capital(b: u8) -> Hint {
     let mut hint = phrases::plain(BASES);
-    hint.letter = unit_hints::capital_of(b);
+    hint.letter = digits::capital_of(b);
     if unit_hints::is_base(hint.letter) {
         hint.key = CAPITAL;
     }

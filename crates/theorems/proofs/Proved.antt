@@ -5,6 +5,7 @@ use native.Mathlib.Nat.{le-trans}
 use lib.ListN.{length}
 use Rattle.rules.proofs.AnswersFit.{reading-most, printing-most, ordering-most, counting-most}
 use Rattle.rules.proofs.CallRows.{reads-are, prints-are, orders-are, counts-are}
+use Rattle.rules.proofs.Capitals.{capitals}
 use Rattle.rules.proofs.DecodeEncode.{decode-encode}
 use Rattle.rules.proofs.DirectIsList.{count-is, direct-is}
 use Rattle.rules.proofs.EncodeDecode.{record-is, record-of}
@@ -19,11 +20,11 @@ use Rattle.rules.proofs.RecordBound.{record-bound}
 use Rattle.rules.proofs.RefusalRows.{cells-are, scanned-are}
 use Rattle.rules.proofs.RoundTrip.{read-print}
 use Rattle.rules.proofs.SoleOrder.{order-sole}
-use Rattle.rules.proofs.Tables.{classes-are, ranges-are, digits-are, keyed-are, letters-are, letters-only, words-are, units-are, separators-are, unit-tags, tags-are, refusal-numbers, limits-are}
+use Rattle.rules.proofs.Tables.{classes-are, ranges-are, capitals-are, digits-are, keyed-are, letters-are, letters-only, words-are, units-are, separators-are, unit-tags, tags-are, refusal-numbers, limits-are}
 use Rattle.rules.proofs.WellFormedIsReadable.{well-formed-is-readable}
 use Rattle.rules.specs.Orders.{orderAt}
 use Rattle.grammar.proofs.Exact.{sound, complete, unique, refused}
-use Rattle.theorems.specs.Demands.{Twelve, Example77, FromTheList, AnswersFit, Decided, CountDecided, Exact, Unique, Refused, ReadSound, NamesDiffer, WellFormedIsReadable, RoundTrip, NeverLonger, DecodeEncode, EncodeDecode, RecordBound, DirectIsList, CountIsLength, Past, OrderWellFormed, OrderFits, SoleOrder, Accepts, ReadWithoutRoom, RefusedForRoomAlone, PrintsGivenRoom, PrintWithoutRoom, PrintThenRead, ReadThenPrint, OrdersGivenRoom, OrdersAreListed, SoleOrderOnBytes, ClassesOfBytes, RangesOfBytes, DigitsOfBases, KeyedDigits, BaseLetters, WordsByRule, SeparatorTexts, TableOfTags, RefusalNumbers, Limits, CellsOfRefusals, CallRows}
+use Rattle.theorems.specs.Demands.{Twelve, Example77, FromTheList, AnswersFit, Decided, CountDecided, Exact, Unique, Refused, ReadSound, NamesDiffer, Capitals, WellFormedIsReadable, RoundTrip, NeverLonger, DecodeEncode, EncodeDecode, RecordBound, DirectIsList, CountIsLength, Past, OrderWellFormed, OrderFits, SoleOrder, Accepts, ReadWithoutRoom, RefusedForRoomAlone, PrintsGivenRoom, PrintWithoutRoom, PrintThenRead, ReadThenPrint, OrdersGivenRoom, OrdersAreListed, SoleOrderOnBytes, ClassesOfBytes, RangesOfBytes, CapitalLetters, DigitsOfBases, KeyedDigits, BaseLetters, WordsByRule, SeparatorTexts, TableOfTags, RefusalNumbers, Limits, CellsOfRefusals, CallRows}
 use Rattle.theorems.proofs.Calls
 
 twelve-lines : Twelve
@@ -58,6 +59,9 @@ read-sound = read-wf
 
 names-once : NamesDiffer
 names-once = names-differ
+
+in-capitals : Capitals
+in-capitals = capitals
 
 readable : WellFormedIsReadable
 readable = well-formed-is-readable
@@ -133,6 +137,9 @@ classes-of-bytes = classes-are
 
 ranges-of-bytes : RangesOfBytes
 ranges-of-bytes = ranges-are
+
+capital-letters : CapitalLetters
+capital-letters = capitals-are
 
 digits-of-bases : DigitsOfBases
 digits-of-bases = digits-are

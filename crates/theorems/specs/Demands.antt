@@ -5,12 +5,15 @@ use mathlib.Core.Path.{_≡_}
 use mathlib.Core.Bool.{Bool, true, false, _&&_, not}
 use mathlib.Core.List.{List, [], _∷_, _++_, map}
 use mathlib.Core.Option.{some}
+use lib.Dec.{eqb}
 use lib.ListN.{length, getD}
+use Rattle.laws.specs.Keys.{anyOf}
+use Rattle.laws.specs.Lists.{all}
 use Rattle.rules.specs.declared.Answer.{Answer}
 use Rattle.rules.specs.Refusals.{Res, ok, bad, mapR, wrongLetter, tooLong, notPermitted, unclosed, noToken, noEnd, afterEnd, wrongCode, kindDiffers, wrongName, wrongShape, unreadable, tooBig, groupBroken, tooMany, tooManyOrders, noRoom, notWellFormed, noSuchOrder, nameTwice, mostLetters, mostText, mostWord, mostPrefixed, mostString, moreOfCode, moreOfName, mostBlocks, mostPlaces, mostLeading, mostElements, mostArguments, mostOrders, mostValue, mostFraction}
-use Rattle.rules.specs.Characters.{bytes, isLetter, isDigit, isAlnum, isEffector, isPermitted, isWordChar, isSymbolChar}
-use Rattle.rules.specs.Units.{rD, rH, rO, rB, letter, baseOf, radixAt, baseAt, isKey}
-use Rattle.rules.specs.Commands.{Place, Block, block, Command, command, placeName}
+use Rattle.rules.specs.Characters.{bytes, capital, isLetter, isDigit, isAlnum, isEffector, isPermitted, isWordChar, isSymbolChar}
+use Rattle.rules.specs.Units.{rD, rH, rO, rB, letter, baseOf, radixAt, baseAt, Unit, keyed, isKey, isHeldKey}
+use Rattle.rules.specs.Commands.{Place, Block, block, Command, command, placeName, commandUnits}
 use Rattle.rules.specs.Reading.{read, readAny}
 use Rattle.rules.specs.Records.{encode, decode, bases}
 use Rattle.rules.specs.WellFormed.{wellFormed, recordOf}
@@ -85,6 +88,12 @@ NamesDiffer =
     (letters text : List ℕ) (code : List (List ℕ)) (before : List Block) (xs : List Place) (p : Place) (ys : List Place) (q : Place) (zs : List Place)
     (behind : List Block) → read letters text ≡ ok (command code (before ++ (block true (xs ++ (p ∷ (ys ++ (q ∷ zs)))) ∷ behind)))
     → placeName p ≡ placeName q → ⊥
+
+-- M-109: "records hold capitals": in what is read every keyed numeral has "0-9, `*`, `#`, A-D" and no small letter
+abbrev pub Capitals : Type 0
+Capitals =
+    (letters text : List ℕ) (c : Command) (before : List Unit) (w : List ℕ) (behind : List Unit) → read letters text ≡ ok c
+    → commandUnits c ≡ before ++ (keyed w ∷ behind) → all (anyOf (bytes "0123456789*#ABCD")) w ≡ true
 
 -- "all rules and limits here hold (text length apart)": a command is well formed exactly where its printed text, length apart, is read back to it
 abbrev pub WellFormedIsReadable : Type 0
@@ -232,13 +241,19 @@ abbrev pub RangesOfBytes : Type 0
 RangesOfBytes =
     map members (isPermitted ∷ isEffector ∷ isLetter ∷ isDigit ∷ isWordChar ∷ isAlnum ∷ isSymbolChar ∷ (λ c. isPermitted c && not (opens c)) ∷ []) ≡ ranges
 
--- "Hexadecimal digits are 0-9, A-F.": each base's size, letter, digits and their values, read and written
+-- M-109: "small letters": each has its capital, and no other byte has another
+abbrev pub CapitalLetters : Type 0
+CapitalLetters =
+    (map capital (bytes "abcdefghijklmnopqrstuvwxyz") ≡ bytes "ABCDEFGHIJKLMNOPQRSTUVWXYZ")
+    × (members (λ c. not (eqb (capital c) c)) ≡ bytes "abcdefghijklmnopqrstuvwxyz")
+
+-- "Hexadecimal digits are 0-9, A-F."; M-109: "may be small": each base's size, letter, digits and their values, read and written
 abbrev pub DigitsOfBases : Type 0
 DigitsOfBases = map baseFound baseRows ≡ map baseStated baseRows
 
--- "Keyed digits are 0-9, `*`, `#`, A-D."
+-- "Keyed digits are 0-9, `*`, `#`, A-D."; M-109: "a keyed letter may be small; records hold capitals": typed, and held
 abbrev pub KeyedDigits : Type 0
-KeyedDigits = members isKey ≡ bytes "#*0123456789ABCD"
+KeyedDigits = (members isKey ≡ bytes "#*0123456789ABCDabcd") × (members isHeldKey ≡ bytes "#*0123456789ABCD")
 
 -- "each D, H, O, B or K"
 abbrev pub BaseLetters : Type 0

@@ -5,9 +5,6 @@ use phrases::Hint;
 // What a prefix takes: a letter and the mark.
 const PREFIX: usize = 2;
 
-// From a capital letter to the small one.
-const SMALL: u8 = 32;
-
 // A numeral with so many characters, its full stop among them, is within every limit.
 const SHORT: usize = 10;
 
@@ -15,8 +12,6 @@ const SHORT: usize = 10;
 const MARK_INSIDE: u8 = b'\'';
 
 const UNKNOWN_PREFIX: u8 = b'u';
-
-const SMALL_PREFIX: u8 = b's';
 
 const KEYED_ONLY: u8 = b'y';
 
@@ -151,11 +146,11 @@ fn behind_stop(word: &[u8]) -> usize {
     0
 }
 
-// The base letter of a numeral: its prefix's, or that of its place.
+// The base letter of a numeral: its prefix's, which may be small, or that of its place.
 fn own_base(word: &[u8], base: u8) -> u8 {
     if PREFIX <= word.len() {
         if word[1] == b'\'' {
-            return word[0];
+            return digits::capital_of(word[0]);
         }
     }
     base
@@ -172,15 +167,12 @@ fn marked(word: &[u8], base: u8) -> Hint {
 }
 
 // Why a word of so many characters with this prefix is no unit.
-fn prefixed(len: usize, base: u8, letter: u8) -> Hint {
+fn prefixed(len: usize, base: u8, typed: u8) -> Hint {
+    let letter = digits::capital_of(typed);
     if may_stand(base, letter) {
         return behind_prefix(len, letter);
     }
-    let capital = capital_of(letter);
-    if may_stand(base, capital) {
-        return lettered(SMALL_PREFIX, capital);
-    }
-    lettered(wrong_prefix(base), letter)
+    lettered(wrong_prefix(base), typed)
 }
 
 // A phrase with a letter.
@@ -188,14 +180,6 @@ fn lettered(key: u8, letter: u8) -> Hint {
     let mut hint = phrases::plain(key);
     hint.letter = letter;
     hint
-}
-
-// The capital letter of a small one; 0 for a character below these.
-pub fn capital_of(letter: u8) -> u8 {
-    if letter < SMALL {
-        return 0;
-    }
-    letter - SMALL
 }
 
 // May a prefix of this letter stand under the base?
@@ -214,7 +198,7 @@ pub fn is_base(b: u8) -> bool {
     digits::plain_letter(b)
 }
 
-// Why a prefix may not stand, in capitals or not.
+// Why a prefix may not stand.
 fn wrong_prefix(base: u8) -> u8 {
     if base == b'K' {
         return KEYED_ONLY;

@@ -8,7 +8,7 @@ use lib.ListN.{length, getD}
 use lib.Dec.{leb, ltb, eqb}
 use borrow.Author.Tests.{lt-leb, le-leb, le-ltb, eqb-true, leb-true}
 use Rattle.laws.specs.Cases.{byBool, and-l}
-use Rattle.rules.specs.Characters.{byte, between, isDigit}
+use Rattle.rules.specs.Characters.{byte, capital, between, isDigit}
 use Rattle.rules.specs.Units.{digitValue, numeral, baseAt}
 use Rattle.digits.specs.declared.Run.{Run}
 use Rattle.digits.specs.Digits.{digitsAt}
@@ -50,8 +50,9 @@ decimal-all b w {r} d q h k =
 
 not-decimal : (c : ℕ) → isDigit c ≡ false → ltb (digitValue c) 10 ≡ false
 not-decimal c y =
-    byBool (between (byte "A") (byte "F") c)
-    (λ z. let h : 65 ≤ c = leb-true 65 c (and-l (leb 65 c) (leb c 70) z) in rw (y, z) (le-ltb (c - 55) 10 (omega arith)))
+    let l : ℕ = capital c in
+    byBool (between (byte "A") (byte "F") l)
+    (λ z. let h : 65 ≤ l = leb-true 65 l (and-l (leb 65 l) (leb l 70) z) in rw (y, z) (le-ltb (l - 55) 10 (omega arith)))
     (λ z. rw (y, z))
 
 pub start-empty : (w : List ℕ) → length w ≡ 0 → false ≡ isDigit (getD w 0 0)

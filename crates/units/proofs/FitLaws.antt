@@ -10,7 +10,7 @@ use lib.Dec.{leb, eqb}
 use borrow.Author.Tests.{leb-true}
 use Rattle.laws.specs.Cases.{Always, byBool}
 use Rattle.rules.specs.Refusals.{mostValue, mostFraction}
-use Rattle.rules.specs.Characters.{byte}
+use Rattle.rules.specs.Characters.{byte, capital}
 use Rattle.rules.specs.Units.{Radix, rD, rH, rO, rB, Base, plain, keys, size, letter, radixLetter, numeral, isIdentifier, isSymbolicName, runOf, isKey, isDigitOf, dotted, fraction, atStop, valueFrom, radixAt, baseAt}
 use Rattle.digits.proofs.LetterLaws.{is-plain}
 use Rattle.units.specs.declared.Word.{Word as Answer}
@@ -105,7 +105,8 @@ unfolding unitUnder prefixUnit
 unit-fits b w =
     byBool (eqb (getD w 1 0) (byte "'"))
     (λ y.
-    byBool (mayStand (letter b) (getD w 0 0))
-    (λ z. rw (y, z) (numeral-fits w (getD w 0 0) 2 (own-prefix (letter b) (getD w 0 0) z)))
+    let l : ℕ = capital (getD w 0 0) in
+    byBool (mayStand (letter b) l)
+    (λ z. rw (y, z) (numeral-fits w l 2 (own-prefix (letter b) l z)))
     (λ z. rw (y, z) tt))
     (λ y. rw y (or-fits w (ofNumeral (letter b) 0 (numeral (baseAt (letter b)) w)) (numeral-fits w (letter b) 0 (own-letter b))))

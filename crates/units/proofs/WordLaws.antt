@@ -1,7 +1,7 @@
 -- What `read_word` answers is what the rules read: a word whose second character is no mark is a numeral or a name, since a mark elsewhere
 -- leaves it in no class; the letter before a mark is a base's, or nothing is read behind it.
 use mathlib.Core.Path.{_≡_, refl, sym, ap, _∙_, subst}
-use mathlib.Core.List.{List, [], _∷_}
+use mathlib.Core.List.{List, [], _∷_, map}
 use mathlib.Core.Bool.{Bool, true, false, not, _&&_, _||_, false≢true}
 use mathlib.Core.Option.{Option, none, some}
 use Prim.Native.Nat.{ℕ, _<_, _≤_}
@@ -12,7 +12,7 @@ use borrow.Author.Tests.{eq-eqb, eqb-true}
 use Rattle.laws.specs.Cases.{Always, byBool, pick, and-false, or-true}
 use Rattle.laws.specs.Lists.{all, any, isNil, allAt, next}
 use Rattle.rules.specs.Refusals.{ok, bad, unreadable, mostValue, mostFraction}
-use Rattle.rules.specs.Characters.{byte, isLetter, isDigit, isAlnum, isSymbolChar}
+use Rattle.rules.specs.Characters.{byte, capital, isLetter, isDigit, isAlnum, isSymbolChar}
 use Rattle.rules.specs.Units.{Radix, rD, rH, rO, rB, Base, plain, keys, letter, Unit, num, keyed, identifier, symbolic, text, isDigitOf, isKey, runOf, atStop, dotted, fraction, numeral, baseOf, limited, orElse, isIdentifier, isSymbolicName, named, prefixNumeral, withMark, readWord, radixAt, baseAt}
 use Rattle.rules.proofs.UnitBack.{no-mark, ident-alnum}
 use Rattle.digits.specs.Digits.{plainLetter}
@@ -157,7 +157,7 @@ sized-is p w l r f v e =
 abbrev pub Of : ℕ → ℕ → List ℕ → Option Unit → Type 0
 Of l k w none = Always
 Of l k w (some (num r f v)) = radixAt l ≡ r
-Of l k w (some (keyed x)) = drop k w ≡ x
+Of l k w (some (keyed x)) = map capital (drop k w) ≡ x
 Of l k w (some (identifier x)) = ⊥
 Of l k w (some (symbolic x)) = ⊥
 Of l k w (some (text x)) = ⊥
@@ -267,10 +267,11 @@ unfolding prefixUnit readAs
 with-prefix b p [] h = absurd (false≢true h)
 with-prefix b p (c ∷ []) h = absurd (false≢true h)
 with-prefix b p (c ∷ m ∷ x) h =
+    let l : ℕ = capital c in
     let marked : any (λ c. eqb c (byte "'")) (c ∷ m ∷ x) ≡ true = rw h (or-true (eqb c (byte "'"))) in
-    let read : withMark b (c ∷ m ∷ x) ≡ pick (mayStand (letter b) c) (numeral (baseAt c) x) none = rw (h, withMark) (letter-is b c x) in
-    byBool (mayStand (letter b) c)
-    (λ y. rw (marked, readWord) (rw (read, y) (prefix-is p (c ∷ m ∷ x) c (numeral (baseAt c) x) (numeral-of c 2 (c ∷ m ∷ x)))))
+    let read : withMark b (c ∷ m ∷ x) ≡ pick (mayStand (letter b) l) (numeral (baseAt l) x) none = rw (h, withMark) (letter-is b l x) in
+    byBool (mayStand (letter b) l)
+    (λ y. rw (marked, readWord) (rw (read, y) (prefix-is p (c ∷ m ∷ x) l (numeral (baseAt l) x) (numeral-of l 2 (c ∷ m ∷ x)))))
     (λ y. rw (marked, readWord) (rw (read, y) refl))
 
 no-prefix : (b : Base) (w : List ℕ) → eqb (getD w 1 0) (byte "'") ≡ false → withMark b w ≡ none

@@ -39,6 +39,16 @@ table =
     ∷ row "K" "K'12#" (Keyed 2)
     ∷ row "K" "*9A" (Keyed 0)
     ∷ row "K" "9Z" Symbolic
+    ∷ row "H" "cafe" (Numeral (byte "H") 0 51966)
+    ∷ row "D" "cafe" Identifier
+    ∷ row "H" "cafg" Identifier
+    ∷ row "D" "h'fF" (Numeral (byte "H") 0 255)
+    ∷ row "H" "d'19.5" (Numeral (byte "D") 1 195)
+    ∷ row "K" "ab" (Keyed 0)
+    ∷ row "D" "k'1d#*" (Keyed 2)
+    ∷ row "K" "abe" Identifier
+    ∷ row "K" "h'1" Unreadable
+    ∷ row "H" "fffffffff" TooBig
     ∷ row "D" "A+B" Symbolic
     ∷ row "D" "A'B" Unreadable
     ∷ row "D" "AB'1" Unreadable

@@ -1,13 +1,13 @@
 -- A word under its place's base, as the code answers it, and what the answer means in the rules.
 use Prim.Native.Nat.{ℕ, _+_, _-_}
 use mathlib.Core.Bool.{Bool, true, false}
-use mathlib.Core.List.{List}
+use mathlib.Core.List.{List, map}
 use mathlib.Core.Option.{Option, none, some}
 use lib.ListN.{length, getD, drop}
 use lib.Dec.{leb, ltb, eqb}
 use Rattle.laws.specs.Cases.{pick}
 use Rattle.rules.specs.Refusals.{Res, ok, bad, unreadable, tooBig, mostValue, mostFraction}
-use Rattle.rules.specs.Characters.{byte}
+use Rattle.rules.specs.Characters.{byte, capital}
 use Rattle.rules.specs.Units.{Radix, size, radixAt, baseAt, Unit, num, keyed, identifier, symbolic, text, isIdentifier, isSymbolicName, numeral}
 use Rattle.digits.specs.Digits.{digitsAt, plainLetter}
 use Rattle.units.specs.declared.Word.{Word as Answer}
@@ -63,8 +63,9 @@ orName w TooBig = TooBig
 unfoldable pub mayStand : ℕ → ℕ → Bool
 mayStand b l = pick (eqb l (byte "K")) true (pick (eqb b (byte "K")) false (plainLetter l))
 
+-- the letter of a prefix may be small: the answer has its capital
 unfoldable pub prefixUnit : ℕ → List ℕ → Answer
-prefixUnit b w = let l = getD w 0 0 in pick (mayStand b l) (ofNumeral l 2 (numeral (baseAt l) (drop 2 w))) Unreadable
+prefixUnit b w = let l = capital (getD w 0 0) in pick (mayStand b l) (ofNumeral l 2 (numeral (baseAt l) (drop 2 w))) Unreadable
 
 -- the word under the base of the letter b. Its second character alone tells a prefix: a mark elsewhere makes every word unreadable
 unfoldable pub unitUnder : ℕ → List ℕ → Answer
@@ -74,7 +75,7 @@ unitUnder b w = pick (eqb (getD w 1 0) (byte "'")) (prefixUnit b w) (orName w (o
 
 unfoldable pub readAs : ℕ → List ℕ → Answer → Res Unit
 readAs p w (Numeral l f v) = ok (num (radixAt l) f v)
-readAs p w (Keyed k) = ok (keyed (drop k w))
+readAs p w (Keyed k) = ok (keyed (map capital (drop k w)))
 readAs p w Identifier = ok (identifier w)
 readAs p w Symbolic = ok (symbolic w)
 readAs p w Unreadable = bad unreadable p

@@ -9,7 +9,7 @@ ghost use Rattle.rules.specs.Units.{isKey, isIdentifier, isSymbolicName, numera
 ghost use Rattle.units.specs.Words.{sized, ofNumeral, fractionUnit, plainUnit, nameUnit, orName, mayStand, prefixUnit, unitUnder};
 
 // What a word is. A numeral has its base's letter, its count of fraction digits and the whole number without the stop; a keyed numeral is
-// the word without its first `skip` characters; an unreadable word is refused with 12, a numeral too big with 13.
+// the capitals of the word without its first `skip` characters; an unreadable word is refused with 12, a numeral too big with 13.
 pub enum Word {
     Numeral {
         letter: u8,
@@ -78,8 +78,8 @@ fn plain_unit(word: &[u8], from: usize, letter: u8) -> Word
     sized_unit(letter, 0, run.value)
 }
 
-// Whether all characters from `from` on are keyed digits.
-pub fn all_keys(word: &[u8], from: usize) -> bool
+// Whether all characters from `from` on are keyed digits, small letters too.
+fn all_keys(word: &[u8], from: usize) -> bool
     ensures { λ r. ⌜ r ≡ allAt isKey (now (word .entry)) from ⌝ }
 {
     let mut i = from;
@@ -238,12 +238,12 @@ fn may_stand(base: u8, letter: u8) -> bool
     digits::plain_letter(letter)
 }
 
-// Rule 1: a word whose second character is the mark.
+// Rule 1: a word whose second character is the mark; the letter before it may be small.
 fn prefix_unit(word: &[u8], base: u8) -> Word
     requires { ⌜ 2 ≤ length (now word) ⌝ }
     ensures { λ r. ⌜ r ≡ prefixUnit base (now (word .entry)) ⌝ }
 {
-    let letter = word[0];
+    let letter = digits::capital_of(word[0]);
     if may_stand(base, letter) {
         return numeral_unit(word, digits::PREFIX, letter);
     }

@@ -17,11 +17,12 @@ use std::time::{Duration, Instant};
 const BATCH: Duration = Duration::from_micros(400);
 
 /// The commands that are timed, each under the name that its rows have.
-const COMMANDS: [(&str, &str); 5] = [
+const COMMANDS: [(&str, &str); 6] = [
     ("short", SHORT),
     ("middle", MIDDLE),
     ("long", LONG),
     ("32 names", NAMES),
+    ("small letters", SMALL_LETTERS),
     ("wide", WIDE),
 ];
 
@@ -49,10 +50,16 @@ const NAMES: &str = concat!(
     "UNIT=6,STATUS=AUTO,ALARM=MINOR,TEST=NO,ID=42,NR=7;",
 );
 
+/// Hexadecimal and keyed numerals typed in small letters.
+const SMALL_LETTERS: &str = concat!(
+    "CHANGE-LINE:DN=k'21#ab&k'1d#*,CAT=h'1f&h'2a&h'ff,ID=h'cafe-h'c0de",
+    ":h'9&&h'ff++h'1e,k'a1b2c3d4,h'c0ffee;",
+);
+
 /// Few values with many orders: its first and its last order alone are timed.
 const WIDE: &str = "A:0&&4094,0&&15;";
 
-const HEAD: &str = "command  call    text  record      k";
+const HEAD: &str = "command       call    text  record      k";
 
 /// A call on one side: gives the answer's value.
 type Side<'a> = Box<dyn FnMut() -> u32 + 'a>;
@@ -273,7 +280,7 @@ impl Row<'_> {
     fn name(&self) -> String {
         let k = self.k.map_or(String::from("-"), |k| k.to_string());
         format!(
-            "{:<8} {:<6} {:>5} {:>7} {:>6}",
+            "{:<13} {:<6} {:>5} {:>7} {:>6}",
             self.command, self.call, self.text, self.record, k
         )
     }

@@ -15,9 +15,11 @@ pub struct Command {
 /// Makes one command.
 pub fn command(random: &mut Random) -> Command {
     let wrong = random.pick(&[0, 0, 0, 0, 60, 60, 25, 10]);
+    let small = random.pick(&[0, 0, 1, 2, 4]);
     let mut maker = Maker {
         random,
         wrong,
+        small,
         bases: Vec::new(),
         tokens: Vec::new(),
         names: Vec::new(),
@@ -56,6 +58,8 @@ struct Maker<'r> {
     random: &'r mut Random,
     /// A wrong choice once in so many times; 0 for never.
     wrong: usize,
+    /// A letter of a numeral typed small once in so many times; 0 for never.
+    small: usize,
     bases: Vec<u8>,
     tokens: Vec<Token>,
     /// The names that the block has so far.
@@ -71,6 +75,16 @@ impl Maker<'_> {
 
     fn bare(&mut self, bytes: &[u8]) {
         self.tokens.push(Token::Bare(bytes.to_vec()));
+    }
+
+    /// A numeral, which is given in capitals; some of its letters may be typed small.
+    fn bare_numeral(&mut self, mut word: Vec<u8>) {
+        for letter in &mut word {
+            if self.small > 0 && self.random.one_in(self.small) {
+                letter.make_ascii_lowercase();
+            }
+        }
+        self.bare(&word);
     }
 
     fn bases(&mut self) {
@@ -91,7 +105,7 @@ impl Maker<'_> {
             self.bases.push(letter);
         }
         if self.errs() {
-            let letter = self.random.pick(b"XdPN\0\xff");
+            let letter = self.random.pick(b"XdhobkPN\0\xff");
             let at = self.random.below(self.bases.len() + 1);
             self.bases.insert(at, letter);
         }
@@ -165,7 +179,7 @@ impl Maker<'_> {
             } else {
                 base
             };
-            let upper = lower + terms as u32 - 1 - u32::from(single);
+            let upper = lower + (terms as u32 - 1 - u32::from(single));
             self.end(letter, letter, lower);
             self.bare(b"&&");
             self.end(letter, letter, upper);
@@ -292,15 +306,17 @@ impl Maker<'_> {
 
     fn identifier(&mut self) -> Vec<u8> {
         let length = self.length(32);
-        let first: &[u8] = self.random.pick(&[b"ABCDEF", b"DHOBK", b"GXYZaz"]);
-        let rest: &[u8] = self.random.pick(&[b"ABCDEF0123", b"XYZabz0189", b"A1"]);
+        let firsts: [&[u8]; 4] = [b"ABCDEF", b"DHOBK", b"GXYZaz", b"abcdef"];
+        let rests: [&[u8]; 5] = [b"ABCDEF0123", b"XYZabz0189", b"A1", b"abcdef0123", b"abcd"];
+        let first = self.random.pick(&firsts);
+        let rest = self.random.pick(&rests);
         let mut word = vec![self.random.pick(first)];
         word.extend(self.word_of(rest, length - 1));
         word
     }
 
     fn wrong_word(&mut self) {
-        let words: [&[u8]; 30] = [
+        let words: [&[u8]; 32] = [
             b"1.",
             b".5",
             b"1.2.3",
@@ -310,7 +326,9 @@ impl Maker<'_> {
             b"'1",
             b"Z'1",
             b"H'G",
-            b"h'1",
+            b"h'g",
+            b"x'1",
+            b"hh'1",
             b"1'1",
             b"D'1'1",
             b"DD'1",
@@ -481,7 +499,7 @@ impl Maker<'_> {
         }
         word.extend(std::iter::repeat_n(b'0', zeros));
         word.extend(digits(value as u64, letter));
-        self.bare(&word);
+        self.bare_numeral(word);
     }
 
     /// One unit that a place of this base may have, most times.
@@ -507,7 +525,7 @@ impl Maker<'_> {
             11 | 12 => self.symbolic_name(),
             13 => {
                 let length = self.length(32);
-                let any: &[u8] = b"0123456789*#ABCDEFG%+.'";
+                let any: &[u8] = b"0123456789*#ABCDEFGabcdefg%+.'";
                 let word = self.word_of(any, length);
                 self.bare(if self.wrong > 0 { &word } else { b"X" });
             }
@@ -549,7 +567,7 @@ impl Maker<'_> {
             }
         }
         word.truncate(36);
-        self.bare(&word);
+        self.bare_numeral(word);
     }
 
     /// A value of a numeral, mostly small, sometimes about the limit.
@@ -565,7 +583,7 @@ impl Maker<'_> {
 
     fn symbolic_name(&mut self) {
         let length = self.length(32);
-        let mut word = self.word_of(b"0169AFHZz+#%", length);
+        let mut word = self.word_of(b"0169AFHZadfz+#%", length);
         let at = self.random.below(length);
         word[at] = self.random.pick(b"%+#Z");
         if self.wrong == 0 {
@@ -655,7 +673,8 @@ fn digits(value: u64, letter: u8) -> Vec<u8> {
 
 /// Edits a few bytes.
 pub fn damage(random: &mut Random, bytes: &mut Vec<u8>) {
-    const TELLING: &[u8] = b";:,=&-+'\"/*.#%$ \t\n019ADFHKOPBNXaz@_\x00\x7f\x80\xff\x01\x05\x07";
+    const TELLING: &[u8] =
+        b";:,=&-+'\"/*.#%$ \t\n019ADFHKOPBNXadfhkobz@_\x00\x7f\x80\xff\x01\x05\x07";
     for _ in 0..random.between(1, 3) {
         let at = random.below(bytes.len() + 1);
         let one = random.pick(TELLING);

@@ -10,8 +10,9 @@
 //!
 //! A run ends after COUNT inputs, or after a minute if there were 20,000 by then; it goes on
 //! until there are, and fails if a quarter of an hour is not enough. It fails too unless every
-//! call gave each answer that it can give: success and, all calls together, every refusal. The
-//! same SEED gives the same inputs.
+//! call gave each answer that it can give: success and, all calls together, every refusal; and
+//! unless the inputs that were made had numerals in small letters, read in commands and refused
+//! in records. The same SEED gives the same inputs.
 
 mod commands;
 mod compare;
@@ -21,6 +22,7 @@ mod lines;
 mod names;
 mod random;
 mod records;
+mod small_letters;
 #[cfg(feature = "direct")]
 mod watched;
 
@@ -32,6 +34,7 @@ use compare::{Answer, Call, Difference, Outcome};
 use coverage::Coverage;
 use library::Library;
 use random::Random;
+use small_letters::SmallLetters;
 
 /// A run ends after this time if it had enough inputs.
 const USUAL: Duration = Duration::from_secs(60);
@@ -120,6 +123,7 @@ struct Run {
     well_formed: u64,
     longest_record: usize,
     answers: Coverage,
+    small_letters: SmallLetters,
     /// Records of accepted commands.
     pool: Vec<Vec<u8>>,
 }
@@ -136,6 +140,7 @@ impl Run {
             well_formed: 0,
             longest_record: 0,
             answers: Coverage::default(),
+            small_letters: SmallLetters::default(),
             pool: vec![vec![1, 0, 1, b'A']],
         }
     }
@@ -150,9 +155,9 @@ impl Run {
             self.inputs += 1;
         }
         self.summary(start.elapsed());
-        match self.answers.missing() {
+        match [self.answers.missing(), self.small_letters.missing()].concat() {
             missing if missing.is_empty() => Ok(()),
-            missing => Err(format!("NEVER ANSWERED: {}", missing.join(", "))),
+            missing => Err(format!("NEVER SEEN: {}", missing.join(", "))),
         }
     }
 
@@ -240,6 +245,9 @@ impl Run {
         let large = needed + self.random.between(1, 50);
         let outcome = call.compare(&mut self.library, &mut self.random, large)?;
         self.answers.note(call, outcome.answer);
+        if self.inputs >= lines::LINES.len() as u64 {
+            self.small_letters.note(call, &outcome);
+        }
         for room in [needed, needed.saturating_sub(1), 0] {
             let answer = call
                 .compare(&mut self.library, &mut self.random, room)?
@@ -326,6 +334,7 @@ impl Run {
             self.well_formed, self.orders, self.longest_record
         );
         self.answers.show();
+        self.small_letters.show();
     }
 }
 

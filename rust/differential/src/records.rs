@@ -8,7 +8,7 @@ use crate::names::{self, Name};
 use crate::random::Random;
 
 /// A field: tag and content.
-type Field = (u8, Vec<u8>);
+pub type Field = (u8, Vec<u8>);
 
 /// A record made of one or two others.
 pub fn record(random: &mut Random, one: &[u8], other: &[u8]) -> Vec<u8> {
@@ -35,7 +35,7 @@ pub fn record(random: &mut Random, one: &[u8], other: &[u8]) -> Vec<u8> {
 }
 
 /// The fields of a record as far as they are whole.
-fn fields(mut record: &[u8]) -> Vec<Field> {
+pub fn fields(mut record: &[u8]) -> Vec<Field> {
     let mut fields = Vec::new();
     while let [tag, high, low, rest @ ..] = record {
         let length = u16::from_be_bytes([*high, *low]) as usize;
@@ -48,7 +48,8 @@ fn fields(mut record: &[u8]) -> Vec<Field> {
     fields
 }
 
-fn join(fields: &[Field]) -> Vec<u8> {
+/// The record of these fields.
+pub fn join(fields: &[Field]) -> Vec<u8> {
     let mut record = Vec::new();
     for (tag, content) in fields {
         record.push(*tag);
@@ -64,7 +65,7 @@ fn change(random: &mut Random, fields: &mut Vec<Field>, other: &[u8]) {
         fields.push((1, b"A".to_vec()));
     }
     let at = random.below(fields.len());
-    match random.below(20) {
+    match random.below(23) {
         0 => {
             fields.remove(at);
         }
@@ -89,6 +90,7 @@ fn change(random: &mut Random, fields: &mut Vec<Field>, other: &[u8]) {
         15 => retag(random, fields),
         16 => add_places(random, fields),
         17..=19 => rename(random, fields),
+        20..=22 => small_letters(random, fields),
         10 => each(random, fields, 7),
         11 => each(random, fields, 6),
         _ => change_content(random, &mut fields[at]),
@@ -151,13 +153,11 @@ fn add_places(random: &mut Random, fields: &mut Vec<Field>) {
 
 /// Makes a unit one of another kind, with a word that bases read in different ways.
 fn retag(random: &mut Random, fields: &mut [Field]) {
-    let words: [&[u8]; 10] = [
-        b"1A", b"CAFE", b"A1", b"10", b"#", b"A#", b"12", b"G", b"0B", b"1+",
+    let words: [&[u8]; 14] = [
+        b"1A", b"CAFE", b"A1", b"10", b"#", b"A#", b"12", b"G", b"0B", b"1+", b"1a", b"cafe",
+        b"ab", b"#a",
     ];
-    let is_unit = |field: &Field| (7..=11).contains(&field.0);
-    let found: Vec<usize> = (0..fields.len()).filter(|&n| is_unit(&fields[n])).collect();
-    if !found.is_empty() {
-        let at = random.pick(&found);
+    if let Some(at) = any_unit(random, fields) {
         let word = if fields[at].0 == 7 || random.one_in(2) {
             random.pick(&words).to_vec()
         } else {
@@ -165,6 +165,41 @@ fn retag(random: &mut Random, fields: &mut [Field]) {
         };
         fields[at] = (random.between(8, 11) as u8, word);
     }
+}
+
+/// Gives a unit small letters: makes its own small, or makes it a word that has some.
+fn small_letters(random: &mut Random, fields: &mut [Field]) {
+    let units: [(u8, &[u8]); 14] = [
+        (8, b"a"),
+        (8, b"1d#*"),
+        (8, b"Ab"),
+        (9, b"cafe"),
+        (9, b"ab"),
+        (9, b"a1"),
+        (9, b"d"),
+        (9, b"Fe"),
+        (9, b"go"),
+        (10, b"1a"),
+        (10, b"#a"),
+        (10, b"1e"),
+        (10, b"0f"),
+        (10, b"9d"),
+    ];
+    if let Some(at) = any_unit(random, fields) {
+        if (8..=10).contains(&fields[at].0) && random.one_in(2) {
+            fields[at].1.make_ascii_lowercase();
+        } else {
+            let (tag, word) = random.pick(&units);
+            fields[at] = (tag, word.to_vec());
+        }
+    }
+}
+
+/// Where one of the units stands, if there are any.
+fn any_unit(random: &mut Random, fields: &[Field]) -> Option<usize> {
+    let is_unit = |field: &Field| (7..=11).contains(&field.0);
+    let found: Vec<usize> = (0..fields.len()).filter(|&n| is_unit(&fields[n])).collect();
+    (!found.is_empty()).then(|| random.pick(&found))
 }
 
 /// Repeats the element at or behind `at` some times.
@@ -188,13 +223,13 @@ fn change_content(random: &mut Random, field: &mut Field) {
     let content = &mut field.1;
     match field.0 {
         2 => *content = vec![random.pick(b"PNPNPNXp")],
-        3 => *content = vec![random.pick(b"DHOBKDHOBKX")],
+        3 => *content = vec![random.pick(b"DHOBKDHOBKDHOBKXdhobk")],
         6 if content.len() == 8 => {
             let half = 4 * random.below(2);
             change_number(random, &mut content[half..half + 4]);
         }
         7 if content.len() == 6 => match random.below(3) {
-            0 => content[0] = random.pick(b"DHOBDHOBDHOBKX"),
+            0 => content[0] = random.pick(b"DHOBDHOBDHOBKXdhob"),
             1 => content[1] = random.pick(&[0, 0, 1, 2, 8, 9, 10, 255]),
             _ => change_number(random, &mut content[2..6]),
         },
@@ -252,8 +287,9 @@ fn range(random: &mut Random) -> Vec<u8> {
 
 /// Any unit's field.
 fn unit(random: &mut Random) -> Field {
-    let words: [&[u8]; 13] = [
+    let words: [&[u8]; 17] = [
         b"A", b"CAFE", b"G1", b"1A", b"#", b"12", b"*", b"+", b"A+B", b"A++", b"10%", b"", b"E",
+        b"a", b"cafe", b"1a", b"#a",
     ];
     match random.below(8) {
         0..=2 => {

@@ -172,7 +172,8 @@ const fn value_of(answer: u64) -> Result<u32, Refusal> {
     }
 }
 
-/// Reads one command; the n-th base letter is the default base of the n-th place. Gives the
+/// Reads one command; the n-th base letter, a capital, is the default base of the n-th place. A
+/// numeral's base prefix and letters may be typed small: the record holds capitals. Gives the
 /// length of the record.
 pub fn read(text: &[u8], bases: &[u8], out: &mut [u8]) -> Result<usize, Refusal> {
     // SAFETY: each pointer and length are those of one slice, and only `out` is written.

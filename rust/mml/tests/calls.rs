@@ -22,6 +22,17 @@ fn read_and_print() {
 }
 
 #[test]
+fn numerals_in_small_letters() {
+    let mut record = [0; 128];
+    let length = mml::read(b"A:h'ff&k'1d#*&cafe;", b"", &mut record).unwrap();
+    let mut text = [0; mml::TEXT_MAX];
+    let length = mml::print(&record[..length], &mut text).unwrap();
+    assert_eq!(&text[..length], b"A:H'FF&K'1D#*&cafe;");
+    let small_base = mml::read(b"A:ff;", b"h", &mut record);
+    assert_eq!(small_base, Err(Refusal::BaseLetter(0)));
+}
+
+#[test]
 fn count_and_order() {
     let record = record();
     assert_eq!(mml::count(&record), Ok(3));

@@ -9,9 +9,9 @@ pub const BINARY: u16 = 1 << 0;
 pub const OCTAL: u16 = 1 << 1;
 /// A digit of base D.
 pub const DECIMAL: u16 = 1 << 2;
-/// A digit of base H.
+/// A digit of base H; its letters may be small.
 pub const HEXADECIMAL: u16 = 1 << 3;
-/// A digit of base K.
+/// A digit of base K; its letters may be small.
 pub const KEYED: u16 = 1 << 4;
 /// A decimal digit or the full stop.
 pub const STOPPED: u16 = 1 << 5;
@@ -29,6 +29,8 @@ pub const UNMARKED: u16 = 1 << 10;
 pub const EFFECTOR: u16 = 1 << 11;
 /// A letter; in the class of a word: its first character is one.
 pub const INITIAL: u16 = 1 << 12;
+/// A digit of base K as a record holds it: its letters are capitals.
+pub const KEYED_IN_RECORD: u16 = 1 << 13;
 
 /// What holds of every character of no word at all.
 pub const ALL: u16 = !0;
@@ -50,12 +52,13 @@ const fn classes() -> [u16; 256] {
 
 const fn class_of(byte: u8) -> u16 {
     let digit = byte.is_ascii_digit();
+    let capital = byte.to_ascii_uppercase();
     let word = is_word_character(byte);
     bit(BINARY, matches!(byte, b'0' | b'1'))
         | bit(OCTAL, matches!(byte, b'0'..=b'7'))
         | bit(DECIMAL, digit)
-        | bit(HEXADECIMAL, digit || matches!(byte, b'A'..=b'F'))
-        | bit(KEYED, digit || matches!(byte, b'*' | b'#' | b'A'..=b'D'))
+        | bit(HEXADECIMAL, digit || matches!(capital, b'A'..=b'F'))
+        | bit(KEYED, is_keyed(capital))
         | bit(STOPPED, digit || byte == b'.')
         | bit(ALPHANUMERIC, byte.is_ascii_alphanumeric())
         | bit(SYMBOLIC, is_symbolic(byte))
@@ -64,6 +67,7 @@ const fn class_of(byte: u8) -> u16 {
         | bit(UNMARKED, word && byte != b'\'')
         | bit(EFFECTOR, matches!(byte, 9..=13 | 32))
         | bit(INITIAL, byte.is_ascii_alphabetic())
+        | bit(KEYED_IN_RECORD, is_keyed(byte))
 }
 
 const fn bit(bit: u16, holds: bool) -> u16 {
@@ -72,6 +76,11 @@ const fn bit(bit: u16, holds: bool) -> u16 {
     } else {
         0
     }
+}
+
+/// A keyed digit, its letter a capital.
+const fn is_keyed(byte: u8) -> bool {
+    byte.is_ascii_digit() || matches!(byte, b'*' | b'#' | b'A'..=b'D')
 }
 
 const fn is_symbolic(byte: u8) -> bool {

@@ -14,7 +14,7 @@ pub const SINGLE: u8 = 5;
 pub const RANGE: u8 = 6;
 /// A D, H, O or B numeral.
 pub const NUMERAL: u8 = 7;
-/// A keyed numeral.
+/// A keyed numeral: its letters are capitals.
 pub const KEYED: u8 = 8;
 /// An identifier.
 pub const IDENTIFIER: u8 = 9;

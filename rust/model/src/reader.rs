@@ -60,7 +60,7 @@ fn read_with<const N: usize>(text: &[u8], bases: &[u8], out: &mut [u8]) -> Resul
     let count = scan.count;
     let mut reader = Reader {
         tokens: &mut table[..count],
-        contents: &contents,
+        contents: &mut contents,
         bases,
         size: 0,
         places: 0,
@@ -86,7 +86,7 @@ fn judge_end(scan: &Scan, length: usize) -> Result<(), Refusal> {
 /// The tokens of one command, and what the reader has found out about them.
 struct Reader<'t> {
     tokens: &'t mut [Token],
-    contents: &'t [u8],
+    contents: &'t mut [u8],
     bases: &'t [u8],
     /// The bytes that the record takes.
     size: usize,

@@ -263,7 +263,7 @@ fn is_numeral(numeral: &Numeral) -> bool {
 }
 
 fn is_keyed(content: &[u8]) -> bool {
-    fits_word(content) && class_of_word(content) & characters::KEYED != 0
+    fits_word(content) && class_of_word(content) & characters::KEYED_IN_RECORD != 0
 }
 
 /// An identifier that is no numeral of the base.

@@ -2,7 +2,7 @@
 //!
 //! The contents begin as a copy of the text. Where a word has format effectors inside or a
 //! string doubled marks, its content is drawn together there, so that every content is one
-//! part of the contents.
+//! part of the contents. Where a word becomes a keyed numeral, its letters become capitals there.
 
 use crate::characters::{self, class};
 use crate::{limits, Refusal};
@@ -105,6 +105,11 @@ impl Token {
     #[inline(always)]
     pub fn content<'c>(&self, contents: &'c [u8]) -> &'c [u8] {
         &contents[self.start as usize..][..self.length as usize]
+    }
+
+    /// Its content, to be changed.
+    pub fn content_mut<'c>(&self, contents: &'c mut [u8]) -> &'c mut [u8] {
+        &mut contents[self.start as usize..][..self.length as usize]
     }
 
     /// Refuses with `number`, shown by this token.

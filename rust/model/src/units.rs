@@ -1,4 +1,7 @@
 //! One word under a default base: its kind, its value, the refusals 12 and 13.
+//!
+//! A base prefix, a hexadecimal digit and a keyed letter may be small. A numeral holds the
+//! capital letter of its base, and the content of a keyed one is put into capitals.
 
 use crate::characters::{self, class_of_word};
 use crate::limits;
@@ -8,6 +11,9 @@ use crate::tokens::{Kind, Token};
 pub const UNREADABLE: u8 = 12;
 /// The refusal of a numeral that is too big or has too many fraction digits.
 pub const TOO_BIG: u8 = 13;
+
+/// The bit that a small letter has and its capital has not.
+const SMALL: u8 = b'a' - b'A';
 
 /// A base: its letter, the class of its digits, its radix (none for K).
 #[derive(Clone, Copy)]
@@ -36,7 +42,7 @@ impl Base {
         }
     }
 
-    /// The base of a letter.
+    /// The base of a letter, which is a capital.
     #[inline]
     pub fn of(letter: u8) -> Option<Base> {
         match letter {
@@ -53,7 +59,7 @@ impl Base {
 /// Reads one unit under its place's base: a word's token becomes that of the unit. A string is
 /// a unit already. Refuses with 12 or 13.
 #[inline]
-pub fn read_unit(token: &mut Token, contents: &[u8], base: Base) -> Result<(), u8> {
+pub fn read_unit(token: &mut Token, contents: &mut [u8], base: Base) -> Result<(), u8> {
     if token.kind == Kind::String {
         return Ok(());
     }
@@ -77,12 +83,12 @@ pub fn read_unit(token: &mut Token, contents: &[u8], base: Base) -> Result<(), u
 }
 
 /// Reads a word that has an apostrophe.
-fn read_prefixed(token: &mut Token, contents: &[u8], base: Base) -> Result<(), u8> {
+fn read_prefixed(token: &mut Token, contents: &mut [u8], base: Base) -> Result<(), u8> {
     let content = token.content(contents);
     let [letter, b'\'', digits @ ..] = content else {
         return Err(UNREADABLE);
     };
-    let own = Base::of(*letter).ok_or(UNREADABLE)?;
+    let own = Base::of(letter.to_ascii_uppercase()).ok_or(UNREADABLE)?;
     if digits.is_empty() || base.letter == b'K' && own.letter != b'K' {
         return Err(UNREADABLE);
     }
@@ -98,11 +104,12 @@ fn read_prefixed(token: &mut Token, contents: &[u8], base: Base) -> Result<(), u
     }
 }
 
-/// Reads a content of nothing but digits of this base.
+/// Reads a content of nothing but digits of this base; keyed ones become capitals.
 #[inline]
-fn read_digits(token: &mut Token, contents: &[u8], base: Base) -> Result<(), u8> {
+fn read_digits(token: &mut Token, contents: &mut [u8], base: Base) -> Result<(), u8> {
     if base.letter == b'K' {
         token.kind = Kind::Keyed;
+        token.content_mut(contents).make_ascii_uppercase();
         return Ok(());
     }
     let value = value_of(token.content(contents), base.radix, 0)?;
@@ -148,12 +155,12 @@ fn value_of(digits: &[u8], radix: u32, before: u32) -> Result<u32, u8> {
     Ok(value as u32)
 }
 
-/// The value of one digit 0 to 9 or A to F.
+/// The value of one digit 0 to 9, A to F or a to f.
 #[inline(always)]
 fn digit_value(digit: u8) -> u8 {
     if digit <= b'9' {
         digit - b'0'
     } else {
-        digit - b'A' + 10
+        (digit | SMALL) - b'a' + 10
     }
 }

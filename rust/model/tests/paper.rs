@@ -67,12 +67,14 @@ mod characters_and_tokens {
         }
     }
 
+    /// Since M-109 not in numerals.
     #[test]
     fn case_counts() {
         assert_ne!(record("Up;", ""), record("UP;", ""));
-        refused("A:d'1;", "", 12, 2);
-        refused("A:h'1;", "", 12, 2);
-        assert_eq!(record("A:a;", "H"), with_unit(b'H', field(9, b"a")));
+        same("A:d'1;", "A:D'1;", "");
+        same("A:h'1;", "A:H'1;", "");
+        assert_eq!(record("A:a;", "H"), with_unit(b'H', numeral(b'H', 0, 10)));
+        assert_eq!(record("A:g;", "H"), with_unit(b'H', field(9, b"g")));
     }
 
     #[test]
@@ -174,13 +176,15 @@ mod units {
         for base in ["D", "H", "O", "B"] {
             assert_eq!(unit("D'19", base), "D 0 19");
             assert_eq!(unit("D'1.9", base), "D 1 19");
+            assert_eq!(unit("d'1", base), "D 0 1");
             assert_eq!(unit("H'1F", base), "H 0 31");
+            assert_eq!(unit("H'f", base), "H 0 15");
             assert_eq!(unit("O'17", base), "O 0 15");
             assert_eq!(unit("B'101", base), "B 0 5");
             assert_eq!(unit("K'0*#AD", base), "8 0*#AD");
         }
         assert_eq!(unit("K'0*#AD", "K"), "8 0*#AD");
-        for word in ["D'1", "H'1", "O'1", "B'1"] {
+        for word in ["D'1", "H'1", "O'1", "B'1", "d'1", "H'f"] {
             assert_eq!(unit(word, "K"), "12 at 2");
         }
     }
@@ -188,9 +192,9 @@ mod units {
     #[test]
     fn rule_1_refuses() {
         let words = [
-            "'", "D'", "'1", "1'1", "A'1", "DD'1", "D'1'1", "D''1", "D'A", "H'G", "H'f", "O'8",
+            "'", "D'", "'1", "1'1", "A'1", "DD'1", "D'1'1", "D''1", "D'A", "H'G", "H'g", "O'8",
             "B'2", "K'E", "K'", "K'1.5", "H'1.5", "O'1.5", "B'1.1", "D'.5", "D'5.", "D'1.2.3",
-            "D'+1", "H'#", "K'%", "d'1",
+            "D'+1", "H'#", "K'%", "d'",
         ];
         for word in words {
             for base in ["D", "H", "O", "B", "K"] {
@@ -207,6 +211,7 @@ mod units {
         assert_eq!(unit("10", "B"), "B 0 2");
         assert_eq!(unit("10", "K"), "8 10");
         assert_eq!(unit("CAFE", "H"), "H 0 51966");
+        assert_eq!(unit("cafe", "H"), "H 0 51966");
         assert_eq!(unit("ABCD", "K"), "8 ABCD");
         assert_eq!(unit("0123456789*#ABCD", "K"), "8 0123456789*#ABCD");
         assert_eq!(unit("1.5", "H"), "12 at 2");
@@ -220,7 +225,7 @@ mod units {
         assert_eq!(unit("CAFG", "H"), "9 CAFG");
         assert_eq!(unit("U", "H"), "9 U");
         assert_eq!(unit("UPD8", "B"), "9 UPD8");
-        assert_eq!(unit("cafe", "H"), "9 cafe");
+        assert_eq!(unit("cafe", "D"), "9 cafe");
     }
 
     #[test]

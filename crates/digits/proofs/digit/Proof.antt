@@ -1,7 +1,10 @@
--- Each range of the match decides the rule's two tests.
+-- Each range of the match is computed against the rule, byte by byte.
 use borrow.Author.Needs.{needs}
-use borrow.Author.Tests.{le-leb, lt-leb}
 use native.Mathlib.Omega.{arith}
+use mathlib.Core.Path.{refl}
+use Prim.Native.Nat.{_-_}
+use Rattle.laws.specs.Ranges.{equal-in-range}
+use Rattle.rules.specs.Units.{digitValue}
 use Rattle.digits.proofs.digit.Statement.{statement}
 use Rattle.digits.proofs.digit.Tie as tie
 use Rattle.digits.proofs.digit.Reads as reads
@@ -10,20 +13,29 @@ use Rattle.digits.proofs.digit.Lts as lts
 sub-result : tie.Need-sub-result
 sub-result c = search needs
 
+sub-result-2 : tie.Need-sub-result-2
+sub-result-2 c = search needs
+
 returns : tie.Need-returns
-returns c = let b = c .before .before .args .b in simp (le-leb 48 b (omega arith), le-leb b 57 (omega arith))
+returns c = equal-in-range (λ x. x - 48) digitValue 48 10 refl (c .before .before .args .b) (omega arith) (omega arith)
 
 returns-2 : tie.Need-returns-2
-returns-2 c = let b = c .before .before .before .before .args .b in simp (le-leb 48 b (omega arith), lt-leb b 57 (omega arith), le-leb 65 b (omega arith), le-leb b 70 (omega arith))
+returns-2 c = equal-in-range (λ x. x - 55) digitValue 65 6 refl (c .before .before .before .before .args .b) (omega arith) (omega arith)
 
 returns-3 : tie.Need-returns-3
-returns-3 c = let b = c .before .args .b in simp (lt-leb 48 b (omega arith), lt-leb 65 b (omega arith))
+returns-3 c = equal-in-range (λ x. x - 87) digitValue 97 6 refl (c .before .before .before .before .before .before .args .b) (omega arith) (omega arith)
 
 returns-4 : tie.Need-returns-4
-returns-4 c = let b = c .before .before .before .args .b in simp (le-leb 48 b (omega arith), lt-leb b 57 (omega arith), lt-leb 65 b (omega arith))
+returns-4 c = equal-in-range (λ x. 99) digitValue 0 48 refl (c .before .args .b) (omega arith) (omega arith)
 
 returns-5 : tie.Need-returns-5
-returns-5 c = let b = c .before .before .before .before .args .b in simp (le-leb 48 b (omega arith), lt-leb b 57 (omega arith), le-leb 65 b (omega arith), lt-leb b 70 (omega arith))
+returns-5 c = equal-in-range (λ x. 99) digitValue 58 7 refl (c .before .before .before .args .b) (omega arith) (omega arith)
+
+returns-6 : tie.Need-returns-6
+returns-6 c = equal-in-range (λ x. 99) digitValue 71 26 refl (c .before .before .before .before .before .args .b) (omega arith) (omega arith)
+
+returns-7 : tie.Need-returns-7
+returns-7 c = equal-in-range (λ x. 99) digitValue 103 153 refl (c .before .before .before .before .before .before .args .b) (omega arith) (omega arith)
 
 pub digit-spec : {M : Type 1} → statement M
-digit-spec = tie.close (tie.spec sub-result returns returns-2 returns-3 returns-4 returns-5)
+digit-spec = tie.close (tie.spec sub-result sub-result-2 returns returns-2 returns-3 returns-4 returns-5 returns-6 returns-7)

@@ -9,6 +9,7 @@ use Rattle.fields.proofs.put_unit.Tie as tie
 use Rattle.fields.proofs.put_unit.Reads as reads
 use Rattle.fields.proofs.put_unit.Lts as lts
 use Rattle.fields.proofs.put_field.Reads as put-field-reads
+use Rattle.fields.proofs.put_keyed.Reads as put-keyed-reads
 use Rattle.fields.proofs.put_numeral.Reads as put-numeral-reads
 
 enum-known-unit : tie.Need-enum-known-unit
@@ -20,29 +21,29 @@ put-numeral-requires c κs = omega (arith, rw (c .before .before .unit .given .1
 enum-known-unit-2 : tie.Need-enum-known-unit-2
 enum-known-unit-2 c = search needs
 
-sub-put-field : tie.Need-sub-put-field
-sub-put-field c = rw (c .before .before .unit2 .given .1) at (c .before .before .before .before .before .before .pre .1)
+sub-put-keyed : tie.Need-sub-put-keyed
+sub-put-keyed c = rw (c .before .before .unit2 .given .1) at (c .before .before .before .before .before .before .pre .1)
 
-part-put-field-start : tie.Need-part-put-field-start
-part-put-field-start c = rw (c .before .before .unit2 .given .1) at (c .before .before .before .before .before .before .pre .1)
+part-put-keyed-start : tie.Need-part-put-keyed-start
+part-put-keyed-start c = rw (c .before .before .unit2 .given .1) at (c .before .before .before .before .before .before .pre .1)
 
-part-put-field-end : tie.Need-part-put-field-end
-part-put-field-end c = search needs
+part-put-keyed-end : tie.Need-part-put-keyed-end
+part-put-keyed-end c = search needs
 
-put-field-requires : tie.Need-put-field-requires
-put-field-requires c κs = let k = c .before .before .before .unit2 .given .0 .0 in (simp (length-take, length-drop) (omega arith), simp (length-take, length-drop) (omega (arith, rw (c .before .before .before .unit2 .given .1, keyed-len (now (c .before .before .before .before .before .before .before .args .word)) k) at (c .before .before .before .before .before .before .before .pre .2))))
+put-keyed-requires : tie.Need-put-keyed-requires
+put-keyed-requires c κs = let k = c .before .before .before .unit2 .given .0 .0 in (simp (length-take, length-drop) (omega arith), simp (length-take, length-drop) (omega (arith, rw (c .before .before .before .unit2 .given .1, keyed-len (now (c .before .before .before .before .before .before .before .args .word)) k) at (c .before .before .before .before .before .before .before .pre .2))))
 
 enum-told : tie.Need-enum-told
 enum-told c = search needs
 
-put-field-requires-2 : tie.Need-put-field-requires-2
-put-field-requires-2 c κs = (omega (arith, c .before .before .before .before .before .pre .0), omega (arith, rw (c .before .enum-told .given .1, identifier-len (now (c .before .before .before .before .before .args .word))) at (c .before .before .before .before .before .pre .2)))
+put-field-requires : tie.Need-put-field-requires
+put-field-requires c κs = (omega (arith, c .before .before .before .before .before .pre .0), omega (arith, rw (c .before .enum-told .given .1, identifier-len (now (c .before .before .before .before .before .args .word))) at (c .before .before .before .before .before .pre .2)))
 
 enum-told-2 : tie.Need-enum-told-2
 enum-told-2 c = search needs
 
-put-field-requires-3 : tie.Need-put-field-requires-3
-put-field-requires-3 c κs = (omega (arith, c .before .before .before .before .before .pre .0), omega (arith, rw (c .before .enum-told2 .given .1, symbolic-len (now (c .before .before .before .before .before .args .word))) at (c .before .before .before .before .before .pre .2)))
+put-field-requires-2 : tie.Need-put-field-requires-2
+put-field-requires-2 c κs = (omega (arith, c .before .before .before .before .before .pre .0), omega (arith, rw (c .before .enum-told2 .given .1, symbolic-len (now (c .before .before .before .before .before .args .word))) at (c .before .before .before .before .before .pre .2)))
 
 enum-told-3 : tie.Need-enum-told-3
 enum-told-3 c = search needs
@@ -60,19 +61,19 @@ same-length-2 : tie.Need-same-length-2
 same-length-2 c = search needs
 
 returns-2 : tie.Need-returns-2
-returns-2 c = let a = c .before .before .before .before .before .before .before .before .before .before .args in wrote-keyed (now (a .word)) (c .before .before .before .before .before .before .unit2 .given .0 .0) (now (a .out)) (c .before .before .before .before .before .before .unit2 .given .1) (c .before .before .put-field .ensures)
+returns-2 c = let a = c .before .before .before .before .before .before .before .before .before .before .args in wrote-keyed (now (a .word)) (c .before .before .before .before .before .before .unit2 .given .0 .0) (now (a .out)) (c .before .before .before .before .before .before .unit2 .given .1) (c .before .before .put-keyed .ensures)
 
 same-length-3 : tie.Need-same-length-3
 same-length-3 c = search needs
 
 returns-3 : tie.Need-returns-3
-returns-3 c = let a = c .before .before .before .before .before .before .before .before .args in wrote-identifier (now (a .word)) (now (a .out)) (c .before .before .before .before .enum-told .given .1) (c .before .before .put-field2 .ensures)
+returns-3 c = let a = c .before .before .before .before .before .before .before .before .args in wrote-identifier (now (a .word)) (now (a .out)) (c .before .before .before .before .enum-told .given .1) (c .before .before .put-field .ensures)
 
 same-length-4 : tie.Need-same-length-4
 same-length-4 c = search needs
 
 returns-4 : tie.Need-returns-4
-returns-4 c = let a = c .before .before .before .before .before .before .before .before .args in wrote-symbolic (now (a .word)) (now (a .out)) (c .before .before .before .before .enum-told2 .given .1) (c .before .before .put-field3 .ensures)
+returns-4 c = let a = c .before .before .before .before .before .before .before .before .args in wrote-symbolic (now (a .word)) (now (a .out)) (c .before .before .before .before .enum-told2 .given .1) (c .before .before .put-field2 .ensures)
 
 returns-5 : tie.Need-returns-5
 returns-5 c = wrote-unreadable (now (c .before .before .before .before .args .word)) (c .enum-told3 .given .1)
@@ -87,14 +88,14 @@ put-unit-spec =
     enum-known-unit
     put-numeral-requires
     enum-known-unit-2
-    sub-put-field
-    part-put-field-start
-    part-put-field-end
-    put-field-requires
+    sub-put-keyed
+    part-put-keyed-start
+    part-put-keyed-end
+    put-keyed-requires
     enum-told
-    put-field-requires-2
+    put-field-requires
     enum-told-2
-    put-field-requires-3
+    put-field-requires-2
     enum-told-3
     enum-told-4
     same-length
