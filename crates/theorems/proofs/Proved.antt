@@ -20,11 +20,11 @@ use Rattle.rules.proofs.RecordBound.{record-bound}
 use Rattle.rules.proofs.RefusalRows.{cells-are, scanned-are}
 use Rattle.rules.proofs.RoundTrip.{read-print}
 use Rattle.rules.proofs.SoleOrder.{order-sole}
-use Rattle.rules.proofs.Tables.{classes-are, ranges-are, capitals-are, digits-are, keyed-are, letters-are, letters-only, words-are, units-are, separators-are, unit-tags, tags-are, refusal-numbers, limits-are}
+use Rattle.rules.proofs.Tables.{classes-are, ranges-are, capitals-are, digits-are, keyed-are, letters-are, letters-only, words-are, units-are, units-listed, separators-are, unit-tags, tags-are, refusal-numbers, limits-are}
 use Rattle.rules.proofs.WellFormedIsReadable.{well-formed-is-readable}
 use Rattle.rules.specs.Orders.{orderAt}
 use Rattle.grammar.proofs.Exact.{sound, complete, unique, refused}
-use Rattle.theorems.specs.Demands.{Twelve, Example77, FromTheList, AnswersFit, Decided, CountDecided, Exact, Unique, Refused, ReadSound, NamesDiffer, Capitals, WellFormedIsReadable, RoundTrip, NeverLonger, DecodeEncode, EncodeDecode, RecordBound, DirectIsList, CountIsLength, Past, OrderWellFormed, OrderFits, SoleOrder, Accepts, ReadWithoutRoom, RefusedForRoomAlone, PrintsGivenRoom, PrintWithoutRoom, PrintThenRead, ReadThenPrint, OrdersGivenRoom, OrdersAreListed, SoleOrderOnBytes, ClassesOfBytes, RangesOfBytes, CapitalLetters, DigitsOfBases, KeyedDigits, BaseLetters, WordsByRule, SeparatorTexts, TableOfTags, RefusalNumbers, Limits, CellsOfRefusals, CallRows}
+use Rattle.theorems.specs.Demands.{Twelve, Example77, FromTheList, AnswersFit, Decided, CountDecided, Exact, Unique, Refused, ReadSound, NamesDiffer, Capitals, WellFormedIsReadable, RoundTrip, NeverLonger, DecodeEncode, EncodeDecode, RecordBound, DirectIsList, CountIsLength, Past, OrderWellFormed, OrderFits, SoleOrder, Accepts, ReadWithoutRoom, RefusedForRoomAlone, PrintsGivenRoom, PrintWithoutRoom, PrintThenRead, ReadThenPrint, OrdersGivenRoom, OrdersAreListed, SoleOrderOnBytes, ClassesOfBytes, RangesOfBytes, CapitalLetters, DigitsOfBases, KeyedDigits, BaseLetters, WordsByRule, UnitsOfACommand, SeparatorTexts, TableOfTags, RefusalNumbers, Limits, CellsOfRefusals, CallRows}
 use Rattle.theorems.proofs.Calls
 
 twelve-lines : Twelve
@@ -152,6 +152,9 @@ base-letters = (letters-are .0, letters-are .1, letters-are .2, letters-are .3, 
 
 words-by-rule : WordsByRule
 words-by-rule = (words-are, units-are)
+
+units-of-a-command : UnitsOfACommand
+units-of-a-command = units-listed
 
 separator-texts : SeparatorTexts
 separator-texts = separators-are

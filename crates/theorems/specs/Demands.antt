@@ -24,7 +24,7 @@ use Rattle.rules.proofs.Lines.{found, stated, twelve, example, example77, answe
 use Rattle.rules.proofs.FromTheList.{ReaderRefuses, PrinterRefuses, OrderRefuses, CountRefuses}
 use Rattle.rules.proofs.RefusalRows.{cells, scanned}
 use Rattle.rules.proofs.CallRows.{readFound, readStated, reads, printFound, printStated, prints, orderFound, orderStated, ordersAsked, countFound, countStated, countsAsked}
-use Rattle.rules.proofs.Tables.{opens, tested, printed, classes, members, ranges, baseFound, baseStated, baseRows, five, isBase, wordFound, wordStated, wordRows, unitFound, unitStated, unitRows, sepFound, sepStated, sepRows, whole, wholeRecord}
+use Rattle.rules.proofs.Tables.{opens, tested, printed, classes, members, ranges, baseFound, baseStated, baseRows, five, isBase, wordFound, wordStated, wordRows, unitFound, unitStated, unitRows, unitsRead, unitsDue, sepFound, sepStated, sepRows, whole, wholeRecord}
 use Rattle.grammar.specs.Grammar.{Follows}
 
 -- ======== the lines
@@ -264,6 +264,10 @@ BaseLetters =
 -- rules 3 and 4, index numbers and pieces of names, on words; rules 1 to 5 under each base
 abbrev pub WordsByRule : Type 0
 WordsByRule = (map wordFound wordRows ≡ map wordStated wordRows) × (map unitFound unitRows ≡ map unitStated unitRows)
+
+-- the units of which `Capitals` speaks are all of a command's: leading ones in full, a range's lower end, every place of every block
+abbrev pub UnitsOfACommand : Type 0
+UnitsOfACommand = unitsRead ≡ unitsDue
 
 -- "Separators, longest first: `&&-`, `&&`, `&-`, `&`, `++`, `-`, `,`, `:`, `=`, `;`."
 abbrev pub SeparatorTexts : Type 0
