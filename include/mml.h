@@ -7,8 +7,9 @@
  *
  * A record is the same command as tagged fields, ready for a program. An order is a record in
  * which each group of arguments is reduced to one argument; the command above has three
- * orders. There are four calls:
+ * orders. There are five calls:
  *
+ *     mml_key     keeper and key         ->  keeper, and whether its line is ready
  *     mml_read    text and base letters  ->  record
  *     mml_print   record                 ->  text
  *     mml_count   record                 ->  number of orders
@@ -18,23 +19,44 @@
  * Take it apart with MML_NUMBER and MML_VALUE.
  *
  *     number 0        the call succeeded; the value is the number of bytes written at the
- *                     start of out (mml_count: the number of orders)
+ *                     start of out (mml_count: the number of orders; mml_key: 1 if the line is
+ *                     ready, else 0)
  *     another number  the call refused; the value is the place (see the list below)
  *
- * A call that succeeds leaves the rest of out as it was. A call that refuses writes nothing.
- * The inputs are never written.
+ * A call that succeeds leaves the rest of out as it was. A call that refuses changes no byte:
+ * nothing is written to out, and a keeper stays as it was. The inputs are never written.
  *
  * POINTERS. A pointer may be anything valid for its length in bytes; there is no alignment and
  * nothing is zero-terminated. With length 0 a pointer may be anything, NULL too: nothing is
- * read or written through it. out must not overlap an input.
+ * read or written through it. out must not overlap an input. A keeper's pointer leads to a
+ * mml_keeper, aligned as the compiler lays one out, and is never NULL.
+ *
+ * KEYS. A line keeper takes what an operator types, one key at a time, and says when the line
+ * is ready for mml_read:
+ *
+ *     mml_keeper keeper;
+ *     keeper.count = 0;
+ *     ...
+ *     answer = mml_key(&keeper, key);
+ *     if (answer == 1) mml_read(keeper.bytes, keeper.count, ...);
+ *
+ * BS (8) removes the last byte held, and does nothing on an empty line. CAN (24) empties the
+ * line. Any other key is held, as it is. A semicolon outside string and comment makes the line
+ * ready; the next key starts an empty line. What a string and a comment are, mml_read's own
+ * rules say, of the bytes held. mml_read never refuses a ready line with 4, 6 or 7; it may
+ * refuse it with any other of its numbers, and BS and CAN in a text with 3.
+ *
+ * Whether a line is ready depends on the bytes held alone: their last byte is a semicolon
+ * outside string and comment, and the first such one. So a keeper that the program filled by
+ * itself is as good as one that keys filled.
  *
  * THREADS AND MEMORY. The library has no state and allocates nothing: any number of threads
  * may call at once, also from an interrupt or a signal handler that has the stack for it:
- * mml_read takes less than 16 KiB, every other call less than 1 KiB, by the frames of the
- * compiled code.
+ * mml_read takes less than 16 KiB, mml_key less than 3 KiB, every other call less than 1 KiB, by
+ * the frames of the compiled code.
  *
- * LINKING. libmml.a is x86-64 code for Linux. It calls one function that it does not have,
- * memset, which every C library has; without a C library, give it one.
+ * LINKING. libmml.a is x86-64 code for Linux. It calls two functions that it does not have,
+ * memcpy and memset, which every C library has; without a C library, give it them.
  *
  * SIZES. An out of these sizes always suffices:
  *
@@ -104,11 +126,11 @@ extern "C" {
 #endif
 
 /* The version of the interface. */
-#define MML_VERSION "1.2"
+#define MML_VERSION "1.3"
 #define MML_VERSION_MAJOR 1
-#define MML_VERSION_MINOR 2
+#define MML_VERSION_MINOR 3
 
-/* The longest text that is read or printed, in bytes. */
+/* The longest text that is read or printed, and the longest line that is kept, in bytes. */
 #define MML_TEXT_MAX 1024u
 
 /* No record is longer, in bytes. */
@@ -117,9 +139,13 @@ extern "C" {
 /* The most base letters, and so the most places of a command. */
 #define MML_BASES_MAX 32u
 
+/* The keys that correct a line. */
+#define MML_KEY_BS 8u
+#define MML_KEY_CAN 24u
+
 /* MML_NUMBER, the number of an answer: 0 for success, else the refusal.
-   MML_VALUE, the value of an answer: bytes written, number of orders, or the place of the
-   refusal. The answer is a uint64_t. */
+   MML_VALUE, the value of an answer: bytes written, number of orders, 1 for a ready line, or the
+   place of the refusal. The answer is a uint64_t. */
 #ifdef __cplusplus
 #define MML_NUMBER(answer) (static_cast<unsigned>((answer) >> 32))
 #define MML_VALUE(answer) (static_cast<uint32_t>((answer) & 0xFFFFFFFFu))
@@ -132,7 +158,7 @@ extern "C" {
  * The refusals. "Place" is counted in bytes of the text from 0 unless said otherwise.
  *
  *    mml_read answers the first of 1 to 17 and 21 that applies, 21 between 10 and 11;
- *    mml_print 18, 2 or 17, mml_order 18, 19 or 17, mml_count 18.
+ *    mml_print 18, 2 or 17, mml_order 18, 19 or 17, mml_count 18, mml_key 20.
  */
 enum {
     MML_DONE = 0,
@@ -200,6 +226,10 @@ enum {
     /* There is no order k. Place: the number of orders. */
     MML_NO_ORDER = 19,
 
+    /* The key is not taken: it was to be held, and 1,024 bytes of a line not ready are held; or
+       the keeper's count passes 1,024, and then no key is taken. Place: 1,024. */
+    MML_NO_KEY = 20,
+
     /* The name stands already in its block, all pieces equal byte for byte; in another block it
        may stand again. Place: the second name's first token. */
     MML_NAME_TWICE = 21
@@ -219,6 +249,23 @@ enum {
     MML_TAG_SYMBOLIC_NAME = 10,
     MML_TAG_STRING = 11
 };
+
+/*
+ * A line keeper: the line that it holds is the first count of its bytes. With count 0 it is
+ * empty, whatever its bytes are. The bytes behind the line are of no account, and a key changes
+ * none of them but the one that it is held in.
+ */
+typedef struct {
+    uint8_t bytes[MML_TEXT_MAX];
+    uint32_t count;
+} mml_keeper;
+
+/*
+ * Takes one key to a line; KEYS above says what it does. The value is 1 if the line is ready
+ * after it, else 0. A key walks over the line only where the line ends with a semicolon, before
+ * the key or after it.
+ */
+uint64_t mml_key(mml_keeper *keeper, uint8_t key);
 
 /*
  * Reads one command. The n-th base letter (D decimal, H hexadecimal, O octal, B binary,

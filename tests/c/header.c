@@ -7,12 +7,12 @@
 
 static const char version[] = MML_VERSION;
 static const unsigned sizes[] = { MML_TEXT_MAX, MML_RECORD_MAX, MML_BASES_MAX };
+static const unsigned keys[] = { MML_KEY_BS, MML_KEY_CAN };
 
-/* No refusal has the number 20. */
 static const unsigned refusals[] = {
     MML_DONE, MML_BASE_LETTER, MML_TEXT_TOO_LONG, MML_BYTE_NOT_PERMITTED, MML_NOT_CLOSED, MML_NO_TOKEN, MML_NO_END, MML_AFTER_END,
     MML_CODE, MML_KIND, MML_NAME, MML_ALTERNATION, MML_UNIT, MML_NUMERAL_TOO_BIG, MML_GROUP, MML_LIMIT, MML_TOO_MANY,
-    MML_BUFFER_TOO_SHORT, MML_RECORD, MML_NO_ORDER, 20, MML_NAME_TWICE
+    MML_BUFFER_TOO_SHORT, MML_RECORD, MML_NO_ORDER, MML_NO_KEY, MML_NAME_TWICE
 };
 
 static const unsigned tags[] = {
@@ -39,7 +39,28 @@ static int taken_apart(void)
     return MML_NUMBER(answer) == 0x01234567u && MML_VALUE(answer) == 0x89ABCDEFu && MML_NUMBER(highest) == MML_VALUE(highest);
 }
 
-/* Does each call answer, here refused? */
+/* Is a keeper laid out as the library has it? */
+static int laid_out(void)
+{
+    return sizeof(mml_keeper) == 1028 && offsetof(mml_keeper, bytes) == 0 && offsetof(mml_keeper, count) == 1024;
+}
+
+/* Does a keeper take a key, and refuse the next when its count passes its bytes? */
+static int kept(void)
+{
+    mml_keeper keeper;
+    uint64_t taken, refused;
+
+    keeper.count = 0;
+    taken = mml_key(&keeper, ';');
+    if (taken != 1 || keeper.count != 1 || keeper.bytes[0] != ';')
+        return 0;
+    keeper.count = MML_TEXT_MAX + 1;
+    refused = mml_key(&keeper, MML_KEY_CAN);
+    return MML_NUMBER(refused) == MML_NO_KEY && MML_VALUE(refused) == MML_TEXT_MAX && keeper.count == MML_TEXT_MAX + 1;
+}
+
+/* Does each other call answer, here refused? */
 static int linked(void)
 {
     return MML_NUMBER(mml_read(NULL, 0, NULL, 0, NULL, 0)) == MML_NO_END && MML_NUMBER(mml_print(NULL, 0, NULL, 0)) == MML_RECORD
@@ -52,9 +73,11 @@ int main(void)
         return 1;
     if (version[0] - '0' != MML_VERSION_MAJOR || version[1] != '.' || version[2] - '0' != MML_VERSION_MINOR || version[3] != 0)
         return 2;
-    if (sizes[0] != 1024 || sizes[1] != 65536 || sizes[2] != 32)
+    if (sizes[0] != 1024 || sizes[1] != 65536 || sizes[2] != 32 || keys[0] != 8 || keys[1] != 24)
         return 3;
     if (!taken_apart())
         return 4;
-    return linked() ? 0 : 5;
+    if (!laid_out())
+        return 5;
+    return kept() && linked() ? 0 : 6;
 }

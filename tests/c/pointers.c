@@ -1,5 +1,6 @@
 /*
- * pointers - every pointer of every call at every position (lent.h): misaligned, next to pages without access, null for length 0.
+ * pointers - every pointer of every call at every position (lent.h): misaligned, next to pages without access, null for length 0; a
+ * keeper's at those that are aligned for it.
  *
  * Each call must answer and write what it does with plain buffers, leave every other byte as it was, and touch nothing outside.
  * Before that the test sees that its own watch works.
@@ -37,6 +38,29 @@ static const struct {
     { "A:4294967296;", "" },
     { "A:9&&5;", "" },
     { "A:0&&4096;", "" },
+};
+
+/* Keepers: how their line begins, the last of their bytes, and their count; their other bytes are the filling. */
+static const struct {
+    const char *start;
+    uint8_t last;
+    uint32_t count;
+} keepers[] = {
+    { "", FILLING, 0 },
+    { ";", FILLING, 0 },
+    { "A", FILLING, 1 },
+    { "A;", FILLING, 2 },
+    { "A;B", FILLING, 3 },
+    { "A;B;", FILLING, 4 },
+    { "A:\"x;", FILLING, 5 },
+    { "A/*x*", FILLING, 5 },
+    { "A", FILLING, MML_TEXT_MAX - 1 },
+    { "A:\"", FILLING, MML_TEXT_MAX - 1 },
+    { "A", FILLING, MML_TEXT_MAX },
+    { "A", ';', MML_TEXT_MAX },
+    { "A:\"", ';', MML_TEXT_MAX },
+    { "A", ';', MML_TEXT_MAX + 1 },
+    { "A", ';', UINT32_MAX },
 };
 
 static struct field inputs[2], outs;
@@ -211,6 +235,49 @@ static void try_command(const char *text, const char *bases)
     try_record(record, len - 1);
 }
 
+/* The key does to the keeper at this position what it did to a plain one. */
+static void try_key_at(const mml_keeper *before, uint8_t key, uint64_t expected, const mml_keeper *after, int position)
+{
+    struct lent one = lend(&outs, position, (const uint8_t *)before, sizeof *before);
+
+    calls++;
+    if (mml_key((mml_keeper *)one.bytes, key) != expected)
+        fail("an answer depends on where a keeper stands");
+    if (!holds(&one, (const uint8_t *)after))
+        fail("what a key changes depends on where its keeper stands");
+    if (is_harmed(&one))
+        fail("a byte beside a keeper is written");
+}
+
+/* Takes the key to the keeper at all positions where one may stand. */
+static void try_key(const mml_keeper *before, uint8_t key)
+{
+    mml_keeper after = *before;
+    uint64_t expected = mml_key(&after, key);
+
+    calls++;
+    if (MML_NUMBER(expected) == MML_DONE ? MML_VALUE(expected) > 1 : MML_NUMBER(expected) != MML_NO_KEY)
+        fail("an answer to a key is none");
+    if (MML_NUMBER(expected) != MML_DONE && memcmp(&after, before, sizeof after) != 0)
+        fail("a key that is refused changes its keeper");
+    for (int position = 0; position < POSITIONS; position++)
+        if (for_keeper(position) == position)
+            try_key_at(before, key, expected, &after, position);
+}
+
+/* Takes every key to a keeper. */
+static void try_keeper(const char *start, uint8_t last, uint32_t count)
+{
+    mml_keeper keeper;
+
+    memcpy(keeper.bytes, filling, sizeof keeper.bytes);
+    memcpy(keeper.bytes, start, strlen(start));
+    keeper.bytes[sizeof keeper.bytes - 1] = last;
+    keeper.count = count;
+    for (unsigned key = 0; key <= UINT8_MAX; key++)
+        try_key(&keeper, (uint8_t)key);
+}
+
 /* The call answered so. */
 static void is(uint64_t answer, unsigned number, uint32_t value)
 {
@@ -248,6 +315,8 @@ int main(void)
     for (size_t i = 0; i < sizeof commands / sizeof commands[0]; i++)
         try_command(commands[i].text, commands[i].bases);
     try_record((const uint8_t *)"", 0);
-    printf("%lu calls, every pointer at %d positions, answer and write alike\n", calls, POSITIONS);
+    for (size_t i = 0; i < sizeof keepers / sizeof keepers[0]; i++)
+        try_keeper(keepers[i].start, keepers[i].last, keepers[i].count);
+    printf("%lu calls, every pointer at %d positions, a keeper's at the aligned ones, answer and write alike\n", calls, POSITIONS);
     return 0;
 }

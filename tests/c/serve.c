@@ -1,17 +1,19 @@
 /*
  * serve - runs the library's calls for another program, which may be built for another processor.
  *
- * A request on standard input: the call (1 byte: 0 read, 1 print, 2 order, 3 count), k (8 bytes), the lengths of the first input, the
- * second input and the buffer (4 bytes each), all low byte first, then the three contents. The reply on standard output: the answer
- * (8 bytes, low byte first), whether a byte beside the buffer or of an input was written (1 byte), and the buffer.
+ * A request on standard input: the call (1 byte: 0 read, 1 print, 2 order, 3 count, 4 key), k (8 bytes), the lengths of the first
+ * input, the second input and the buffer (4 bytes each), all low byte first, then the three contents. The reply on standard output: the
+ * answer (8 bytes, low byte first), whether a byte beside the buffer or of an input was written (1 byte), and the buffer. Of the call
+ * key the buffer is the keeper, byte for byte, and k the key.
  *
- * From call to call the three are lent at other positions (lent.h). A touch of a page without access ends the program.
+ * From call to call the three are lent at other positions (lent.h), a keeper at those where it may stand. A touch of a page without
+ * access ends the program.
  */
 #include "lent.h"
 
 #include "mml.h"
 
-enum { READ, PRINT, ORDER, COUNT };
+enum { READ, PRINT, ORDER, COUNT, KEY };
 enum { FIRST, SECOND, OUT, BUFFERS };
 enum { AT_K = 1, K_SIZE = 8, AT_LENGTHS = 9, LENGTH_SIZE = 4, HEAD_SIZE = 21 };
 enum { ANSWER_SIZE = 8 };
@@ -75,6 +77,10 @@ static uint64_t answer(int call, uint64_t k, const struct lent lent[BUFFERS])
         return mml_order(first->bytes, first->len, k, out->bytes, out->len);
     case COUNT:
         return mml_count(first->bytes, first->len);
+    case KEY:
+        if (out->len != sizeof(mml_keeper))
+            stop("the buffer is no keeper");
+        return mml_key((mml_keeper *)out->bytes, (uint8_t)k);
     default:
         stop("there is no such call");
         return 0;
@@ -113,8 +119,12 @@ static void serve(const uint8_t *head, unsigned turn)
     uint64_t result;
 
     for (int i = 0; i < BUFFERS; i++) {
+        int position = (int)(turn % POSITIONS);
+
         take(&contents[i], low_first(head + AT_LENGTHS + i * LENGTH_SIZE, LENGTH_SIZE));
-        lent[i] = lend(&fields[i], (int)(turn % POSITIONS), contents[i].bytes, contents[i].len);
+        if (i == OUT && head[0] == KEY)
+            position = for_keeper(position);
+        lent[i] = lend(&fields[i], position, contents[i].bytes, contents[i].len);
         turn /= POSITIONS;
     }
     result = answer(head[0], low_first(head + AT_K, K_SIZE), lent);

@@ -2,7 +2,8 @@
  * stack - the bytes of stack that each call takes; more than its bound is a failure.
  *
  * Each call runs on a stack of its own that is painted before; what is no longer painted was used. A command is read as it is, and
- * with spaces to the longest text, since longer texts are read through longer tables.
+ * with spaces to the longest text, since longer texts are read through longer tables. Keys are taken to lines of all lengths and
+ * ends, also where they are refused.
  */
 #define _XOPEN_SOURCE 700
 #include <stdio.h>
@@ -13,9 +14,10 @@
 #include "mml.h"
 
 enum { ROOM = 1 << 18, PAINT = 0x5C, KIBIBYTE = 1024 };
-enum { READ, PRINT, ORDER, COUNT, CALLS };
+enum { READ, PRINT, ORDER, COUNT, KEY, CALLS };
 
-/* Each call, and the bytes of stack that it may take: the reader has its tables of tokens there, the others a row of 32 numbers at most. */
+/* Each call, and the bytes of stack that it may take: the reader has its tables of tokens there, a key copies of its keeper, the others a
+   row of 32 numbers at most. */
 static const struct {
     const char *name;
     size_t allowed;
@@ -24,6 +26,7 @@ static const struct {
     [PRINT] = { "print", KIBIBYTE },
     [ORDER] = { "order", KIBIBYTE },
     [COUNT] = { "count", KIBIBYTE },
+    [KEY] = { "key", 3 * KIBIBYTE },
 };
 
 static const char *const commands[] = {
@@ -36,11 +39,35 @@ static const char *const commands[] = {
     "A:PORT=1,PART=2,N-1=3,N-01=4,OWNER-1=5,OTNER-1=6;",
 };
 
+/* Lines that keys are taken to: so many bytes, all of them the same but the last, and the number that a key is answered which is to be
+   held, and one which removes. */
+static const struct {
+    uint32_t count;
+    uint8_t byte, last;
+    unsigned held, removes;
+} lines[] = {
+    { 0, 'A', 'A', MML_DONE, MML_DONE },
+    { 1, ';', ';', MML_DONE, MML_DONE },
+    { MML_TEXT_MAX - 1, 'A', 'A', MML_DONE, MML_DONE },
+    { MML_TEXT_MAX - 1, '"', '"', MML_DONE, MML_DONE },
+    { MML_TEXT_MAX - 1, '/', '*', MML_DONE, MML_DONE },
+    { MML_TEXT_MAX, 'A', 'A', MML_NO_KEY, MML_DONE },
+    { MML_TEXT_MAX, 'A', ';', MML_DONE, MML_DONE },
+    { MML_TEXT_MAX, '"', ';', MML_NO_KEY, MML_DONE },
+    { MML_TEXT_MAX, ';', ';', MML_NO_KEY, MML_DONE },
+    { MML_TEXT_MAX + 1, 'A', ';', MML_NO_KEY, MML_NO_KEY },
+};
+
+static const uint8_t held_keys[] = "A;\"/*";
+static const uint8_t removing_keys[] = { MML_KEY_BS, MML_KEY_CAN };
+
 static uint8_t text[MML_TEXT_MAX];
 static uint8_t record[MML_RECORD_MAX];
 static uint8_t out[MML_RECORD_MAX];
 static size_t text_len, record_len;
 static uint64_t k, answer;
+static mml_keeper keeper;
+static uint8_t key;
 static int call;
 
 static uint8_t room[ROOM];
@@ -69,13 +96,16 @@ static void run(void)
     case ORDER:
         answer = mml_order(record, record_len, k, out, sizeof out);
         break;
+    case KEY:
+        answer = mml_key(&keeper, key);
+        break;
     default:
         answer = mml_count(record, record_len);
     }
 }
 
-/* The bytes of stack that the call takes. */
-static size_t used(void)
+/* The bytes of stack that the call takes, which must answer with this number. */
+static size_t used(unsigned number)
 {
     size_t untouched = 0;
 
@@ -88,8 +118,8 @@ static size_t used(void)
     makecontext(&there, run, 0);
     if (swapcontext(&here, &there) != 0)
         stop("the call cannot be run on a stack of its own");
-    if (MML_NUMBER(answer) != MML_DONE)
-        stop("a call refused");
+    if (MML_NUMBER(answer) != number)
+        stop("a call answered with another number");
     while (untouched < sizeof room && room[untouched] == PAINT)
         untouched++;
     return sizeof room - untouched;
@@ -108,13 +138,33 @@ static void take(const char *command, size_t len)
     memcpy(record, out, record_len);
 }
 
-/* Runs every call on what was taken up, and keeps the most that each took. */
-static void measure(size_t most[CALLS])
+/* Runs the call, and keeps the most that it took. */
+static void measure(size_t most[CALLS], unsigned number)
 {
-    for (call = 0; call < CALLS; call++) {
-        size_t bytes = used();
-        if (most[call] < bytes)
-            most[call] = bytes;
+    size_t bytes = used(number);
+
+    if (most[call] < bytes)
+        most[call] = bytes;
+}
+
+/* Runs every call of commands on what was taken up. */
+static void measure_command(size_t most[CALLS])
+{
+    for (call = READ; call <= COUNT; call++)
+        measure(most, MML_DONE);
+}
+
+/* Takes these keys, each to the same line. */
+static void measure_keys(size_t most[CALLS], size_t line, const uint8_t *keys, size_t n, unsigned number)
+{
+    call = KEY;
+    for (size_t i = 0; i < n; i++) {
+        memset(keeper.bytes, lines[line].byte, sizeof keeper.bytes);
+        keeper.count = lines[line].count;
+        if (keeper.count > 0 && keeper.count <= sizeof keeper.bytes)
+            keeper.bytes[keeper.count - 1] = lines[line].last;
+        key = keys[i];
+        measure(most, number);
     }
 }
 
@@ -127,9 +177,13 @@ int main(void)
         const char *command = commands[i / 2];
         take(command, i % 2 == 0 ? strlen(command) : sizeof text);
         k = 0;
-        measure(most);
+        measure_command(most);
         k = MML_VALUE(mml_count(record, record_len)) - 1;
-        measure(most);
+        measure_command(most);
+    }
+    for (size_t i = 0; i < sizeof lines / sizeof lines[0]; i++) {
+        measure_keys(most, i, held_keys, sizeof held_keys - 1, lines[i].held);
+        measure_keys(most, i, removing_keys, sizeof removing_keys, lines[i].removes);
     }
     for (call = 0; call < CALLS; call++) {
         printf("%-5s %5zu bytes of stack, %5zu allowed\n", calls[call].name, most[call], calls[call].allowed);

@@ -1,16 +1,20 @@
 // The program behind `./mml`. Each line of standard input is a command or, for some verbs, a record
-// in hexadecimal; module `verbs` says what is done with it. It is started with four words that the
-// script has judged, MANNER VERB K BASES; crate `words` takes them:
+// in hexadecimal; module `verbs` says what is done with it. Of `keys` each byte is a key; module
+// `keys` makes lines of them. It is started with four words that the script has judged, MANNER VERB
+// K BASES; crate `words` takes them:
 //
 //     MANNER  alone  nothing is told at the end
 //             told   at the end one digit goes to descriptor 3, where the script reads it
-//             typed  the same, and a prompt stands on standard error before each line
-//     VERB    check, record, orders, order, text or bases
-//     K       the order that `order` asks for; the other verbs do not use it
+//             typed  the same, and a prompt stands on standard error before each line; of `keys`
+//                    the bytes are those of a terminal on which each key acts at once
+//     VERB    check, record, orders, order, keys, text or bases
+//     K       the order that `order` asks for; of `keys` the columns of the terminal; the other
+//             verbs do not use it
 //     BASES   the base letters, perhaps none
 //
 // The digit is the script's status: 0 every line was served, 1 at least one was refused, 2 the words
 // are wrong, 3 input or output failed. No Rattle program ends with a status of its own.
+mod keys;
 mod verbs;
 
 use lines::BLOCK;
@@ -34,6 +38,7 @@ fn main() {
     match words::what(manner) {
         Asked::Commands(verb) => words::tell(manner, replies::digit(serve_commands(manner, verb))),
         Asked::Records(verb) => words::tell(manner, replies::digit(serve_records(manner, verb))),
+        Asked::Keys(columns) => words::tell(manner, replies::digit(serve_keys(manner, columns))),
         Asked::Wrong => words::tell(manner, b'2'),
     }
 }
@@ -51,6 +56,14 @@ fn serve_commands(manner: Manner, verb: Verb) -> Outcome {
         &mut block,
         &mut line,
     )
+}
+
+// Serves each byte as a key.
+fn serve_keys(manner: Manner, columns: u64) -> Outcome {
+    let mut letters = [0u8; BASES];
+    let n = words::bases(&mut letters);
+    let mut block = io::buffer();
+    keys::serve(manner, columns, figures::front(&letters, n), &mut block)
 }
 
 // Serves each line as a record.

@@ -1,5 +1,5 @@
 // What the programs over the library share: the lines of standard input, however they arrive (from
-// a file or a pipe, typed or pasted), and bytes written in hexadecimal.
+// a file or a pipe, typed or pasted), its bytes one by one, and bytes written in hexadecimal.
 mod hexadecimal;
 
 pub use hexadecimal::write_hex;
@@ -30,6 +30,13 @@ pub enum Got {
         long: usize,
         rest: Input,
     },
+    End,
+    Failed,
+}
+
+// One byte. Or the end of the input, or a read that failed.
+pub enum One {
+    Byte { byte: u8, rest: Input },
     End,
     Failed,
 }
@@ -71,6 +78,23 @@ pub fn next_line(block: &mut [u8; BLOCK], input: Input, line: &mut [u8]) -> Got 
         turns -= 1;
     }
     Got::Failed
+}
+
+// The next byte, as soon as it has come.
+pub fn next_byte(block: &mut [u8; BLOCK], input: Input) -> One {
+    let mut rest = filled(block, input);
+    if rest.failed {
+        return One::Failed;
+    }
+    let at = rest.at;
+    if rest.end <= at {
+        return One::End;
+    }
+    rest.at = at + 1;
+    One::Byte {
+        byte: block[at],
+        rest: rest,
+    }
 }
 
 // The input with bytes to serve: where none are left it reads once.

@@ -1,5 +1,5 @@
 -- The C interface's one number decides: number and value are its quotient and remainder by 2^32, since every call's value is below 2^32; so two results that meet
--- `Packs` or `PacksCount` are equal.
+-- `Packs`, `PacksCount` or `PacksKey` are equal.
 use Prim.Native.Nat.{ℕ, _+_, _*_, _/_, _%_, _^_, _<_, _≤_}
 use mathlib.Core.Path.{_≡_, refl, sym, ap, _∙_}
 use mathlib.Core.List.{List, [], _∷_, map}
@@ -7,10 +7,12 @@ use native.Mathlib.Omega.{arith}
 use lib.ListN.{length}
 use Rattle.rules.specs.declared.Answer.{Answer}
 use Rattle.rules.specs.declared.Answer.the-variants.{Done, Refused}
+use Rattle.rules.specs.declared.Keeper.{Keeper}
 use Rattle.rules.specs.Refusals.{Res, mapR}
 use Rattle.rules.specs.Answers.{reading, printing, ordering, counting, answered, buffered, numberOf, valueOf}
-use Rattle.rules.proofs.AnswersFit.{reading-most, printing-most, ordering-most, counting-most}
-use Rattle.mml.specs.Interface.{packed, Packs, PacksCount}
+use Rattle.rules.specs.Keeping.{afterKey}
+use Rattle.rules.proofs.AnswersFit.{reading-most, printing-most, ordering-most, counting-most, pressing-most}
+use Rattle.mml.specs.Interface.{packed, Packs, PacksCount, PacksKey}
 
 -- answers and their numbers, worked out by hand: 17 times 4,294,967,296, and 4; the greatest value
 pub packed-are :
@@ -58,9 +60,15 @@ order-parts rec k old r new p = packed-parts r (answered (mapR length (ordering 
 pub count-parts : (rec : List ℕ) (r : ℕ) → PacksCount rec r → Parts r (answered (counting rec))
 count-parts rec r p = packed-parts r (answered (counting rec)) p (counting-most rec)
 
+pub key-parts : (k : Keeper) (c r : ℕ) (new : Keeper) → PacksKey k c r new → Parts r (afterKey k c .answer)
+key-parts k c r new p = packed-parts r (afterKey k c .answer) (p .answers) (pressing-most k c)
+
 -- "Any two results satisfying it are proved equal"
 pub packs-decided : (result : Res (List ℕ)) (old : List ℕ) (r s : ℕ) (new also : List ℕ) → Packs result old r new → Packs result old s also → (r ≡ s) × (new ≡ also)
 packs-decided result old r s new also p q = (p .answers ∙ sym (q .answers), p .holds ∙ sym (q .holds))
 
 pub count-decided : (rec : List ℕ) (r s : ℕ) → PacksCount rec r → PacksCount rec s → r ≡ s
 count-decided rec r s p q = p ∙ sym q
+
+pub key-decided : (k : Keeper) (c r s : ℕ) (new also : Keeper) → PacksKey k c r new → PacksKey k c s also → (r ≡ s) × (new ≡ also)
+key-decided k c r s new also p q = (p .answers ∙ sym (q .answers), p .holds ∙ sym (q .holds))

@@ -4,10 +4,13 @@ use mathlib.Core.Path.{_≡_}
 use mathlib.Core.List.{List}
 use lib.ListN.{length}
 use Rattle.rules.specs.declared.Answer.{Answer}
+use Rattle.rules.specs.declared.Keeper.{Keeper}
 use Rattle.rules.specs.Refusals.{Res, mapR}
 use Rattle.rules.specs.Answers.{answered, buffered, counting, numberOf, valueOf}
+use Rattle.rules.specs.Keeping.{afterKey}
+use Rattle.mml.specs.declared.Numbered.{Numbered}
 
--- number 0: the value is the bytes written (count: the number of orders); else the value is the place
+-- number 0: the value is the bytes written (count: the number of orders; a key: 1 if the line is ready, else 0); else the value is the place
 abbrev pub packed : Answer → ℕ
 packed a = numberOf a * 2 ^ 32 + valueOf a
 
@@ -17,3 +20,12 @@ pub record Packs (result : Res (List ℕ)) (old : List ℕ) (r : ℕ) (new : Lis
 
 abbrev pub PacksCount : List ℕ → ℕ → Type 0
 PacksCount record′ r = r ≡ packed (answered (counting record′))
+
+-- a key: the number, and every byte of the keeper
+pub record PacksKey (old : Keeper) (key : ℕ) (r : ℕ) (new : Keeper) : Type 0 where
+  pub answers : r ≡ packed (afterKey old key .answer)
+  pub holds : new ≡ afterKey old key .keeper
+
+-- the same by value
+abbrev pub numbered : Keeper → ℕ → Numbered
+numbered k c = record { keeper = afterKey k c .keeper; answer = packed (afterKey k c .answer) }

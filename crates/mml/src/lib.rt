@@ -1,8 +1,11 @@
-// The public face: read, print, order and count, for Rattle and for C.
+// The public face: read, print, order, count and key, for Rattle and for C.
 ghost use mathlib.Core.Path.{_≡_};
 ghost use Rattle.rules.specs.Answers.{reading, printing, ordering, counting, Reads, Prints, Orders, Counts};
-ghost use Rattle.mml.specs.Interface.{packed, Packs, PacksCount};
+ghost use Rattle.rules.specs.Keeping.{afterKey};
+ghost use Rattle.mml.specs.Interface.{packed, Packs, PacksCount, PacksKey, numbered};
 use rules::Answer;
+use rules::Keeper;
+use rules::Pressed;
 
 // The answer's number is multiplied by this; the value or the place stands below it.
 const NUMBER: u64 = 4294967296;
@@ -33,6 +36,13 @@ pub fn count(rec: &[u8]) -> Answer
     ensures { λ r. ⌜ Counts (now (rec .entry)) r ⌝ }
 {
     records::count(rec)
+}
+
+// One key to a line keeper.
+pub fn key(keeper: Keeper, key: u8) -> Pressed
+    ensures { λ r. ⌜ r ≡ afterKey keeper key ⌝ }
+{
+    keeper::key(keeper, key)
 }
 
 // An answer as one number.
@@ -79,4 +89,35 @@ pub extern "C" fn mml_count(rec: &[u8]) -> u64
 {
     let counting = count(rec);
     pack(counting)
+}
+
+// A keeper after a key, and the answer as one number.
+pub struct Numbered {
+    pub keeper: Keeper,
+    pub answer: u64,
+}
+
+// One key, with the answer as one number.
+fn number_key(keeper: Keeper, key: u8) -> Numbered
+    ensures { λ r. ⌜ r ≡ numbered keeper key ⌝ }
+{
+    let pressed = keeper::key(keeper, key);
+    let answer = pressed.answer;
+    let number = pack(answer);
+    let after = pressed.keeper;
+    Numbered {
+        keeper: after,
+        answer: number,
+    }
+}
+
+// `mml_key` of include/mml.h.
+#[no_mangle]
+pub extern "C" fn mml_key(keeper: &mut Keeper, key: u8) -> u64
+    ensures { λ r. ⌜ PacksKey (now (keeper .entry)) key r (now (keeper .exit)) ⌝ }
+{
+    let was = *keeper;
+    let done = number_key(was, key);
+    *keeper = done.keeper;
+    done.answer
 }

@@ -147,6 +147,8 @@ pub fn write_phrase(
 19 . there are only so many orders, counted from 0
 19 1 there is 1 order, number 0
 19 n there are $n orders, 0 to $m
+20 . this key is not taken: a line has at most 1,024 bytes
+20 k BS removes the last byte, and CAN empties the line
 21 . this name already stands in its block
 21 o a block has each name once: join the arguments by &, as in LEV=3&4, or leave one out
 00 - nothing more can be told of it

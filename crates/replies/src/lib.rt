@@ -46,7 +46,7 @@ pub fn is_failure(outcome: Outcome) -> bool
 }
 
 // The outcome of a line whose answer is an answer to what was asked.
-fn served(written: bool) -> Outcome {
+pub fn served(written: bool) -> Outcome {
     if written {
         Outcome::Served
     } else {
@@ -55,7 +55,7 @@ fn served(written: bool) -> Outcome {
 }
 
 // The outcome of a line whose answer is a refusal.
-fn refused(written: bool) -> Outcome {
+pub fn refused(written: bool) -> Outcome {
     if written {
         Outcome::Refused
     } else {

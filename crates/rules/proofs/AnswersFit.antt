@@ -1,13 +1,16 @@
 -- Every answer's value is at most 65,536, so it fits 32 bits: a place is one in a text, an index, or a number of bytes or of orders, and no record is longer.
 use Prim.Native.Nat.{ℕ, _≤_}
 use mathlib.Core.Path.{_≡_}
+use mathlib.Core.Bool.{Bool, true, false}
 use mathlib.Core.List.{List}
 use native.Mathlib.Omega.{arith}
 use lib.ListN.{length}
+use Rattle.rules.specs.declared.Keeper.{Keeper}
 use Rattle.rules.specs.Refusals.{Res, ok, bad, mapR}
 use Rattle.rules.specs.Answers.{reading, printing, ordering, counting, answered, valueOf}
-use Rattle.rules.proofs.FromTheList.{ReaderRefuses, PrinterRefuses, OrderRefuses, CountRefuses, Record, Text, Orders, reading-comes, printing-comes, ordering-comes, counting-comes}
-use Rattle.rules.proofs.RefusalPlaces.{Comes}
+use Rattle.rules.specs.Keeping.{ready, held, flag, settled, pressing, afterKey}
+use Rattle.rules.proofs.FromTheList.{ReaderRefuses, PrinterRefuses, OrderRefuses, CountRefuses, KeyRefuses, Record, Text, Orders, reading-comes, printing-comes, ordering-comes, counting-comes, pressing-comes}
+use Rattle.rules.proofs.RefusalPlaces.{Comes, Whatever}
 
 -- a call's value, where its refusals' places and what it writes are no more
 value-most : (P : ℕ → ℕ → Type 0) (Q : List ℕ → Type 0) (r : Res (List ℕ)) → Comes P Q r → ((n p : ℕ) → P n p → p ≤ 65536)
@@ -52,3 +55,20 @@ count-most (bad n p) CountRefuses.notWellFormed = omega arith
 
 pub counting-most : (r : List ℕ) → valueOf (answered (counting r)) ≤ 65536
 counting-most r = count-most (counting r) (counting-comes r)
+
+-- a key's: 0, 1 or 1,024
+flag-most : (b : Bool) → flag b ≤ 65536
+flag-most true = omega arith
+flag-most false = omega arith
+
+key-most : (k : Keeper) (c n p : ℕ) → KeyRefuses k c n p → p ≤ 65536
+key-most k c n p (KeyRefuses.fullLine h r e) = omega arith
+key-most k c n p (KeyRefuses.passedCount h) = omega arith
+
+pressed-most : (k : Keeper) (c : ℕ) (r : Res Keeper) → Comes (KeyRefuses k c) Whatever r → valueOf (settled r k .answer) ≤ 65536
+pressed-most k c (ok n) h = flag-most (ready (held n))
+pressed-most k c (bad n p) h = key-most k c n p h
+
+pub pressing-most : (k : Keeper) (c : ℕ) → valueOf (afterKey k c .answer) ≤ 65536
+unfolding afterKey
+pressing-most k c = pressed-most k c (pressing k c) (pressing-comes k c)

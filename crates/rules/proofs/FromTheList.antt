@@ -5,12 +5,13 @@ use mathlib.Core.Bool.{Bool, true, false, _&&_}
 use mathlib.Core.List.{List, [], _∷_}
 use mathlib.Core.Option.{Option, none, some}
 use native.Mathlib.Omega.{arith}
-use lib.Dec.{leb, ltb}
+use lib.Dec.{eqb, leb, ltb}
 use lib.ListN.{length}
 use borrow.Author.Tests.{leb-true, leb-false, ltb-false}
-use Rattle.laws.specs.Cases.{byBool, and-l}
+use Rattle.laws.specs.Cases.{pick-if, byBool, and-l}
 use Rattle.laws.specs.Keys.{anyOf}
 use Rattle.laws.specs.Lists.{eqL}
+use Rattle.rules.specs.declared.Keeper.{Keeper}
 use Rattle.rules.specs.Refusals.{Res, ok, bad, _>>=_, mapR, guard, mostText}
 use Rattle.rules.specs.Tokens.{Token, semi, State, idle, run, firstOff, scan}
 use Rattle.rules.specs.Units.{Base}
@@ -21,6 +22,7 @@ use Rattle.rules.specs.WellFormed.{wellFormed, judged, recordOf}
 use Rattle.rules.specs.Printing.{print}
 use Rattle.rules.specs.Orders.{orderAt, count}
 use Rattle.rules.specs.Answers.{fitted, reading, printing, ordering, counting}
+use Rattle.rules.specs.Keeping.{ready, held, found, stored, pressing}
 use Rattle.rules.proofs.CommandBack.{count-all, c-count}
 use Rattle.rules.proofs.EncodeDecode.{record-is}
 use Rattle.rules.proofs.OrderWellFormed.{order-wf}
@@ -55,6 +57,11 @@ pub data OrderRefuses (r : List ℕ) (k : ℕ) (old : List ℕ) : ℕ → ℕ �
 -- "Count: 18"
 pub data CountRefuses : ℕ → ℕ → Type 0 where
   notWellFormed : CountRefuses 18 0
+
+-- M-100: "20, a key to be held when 1,024 bytes of a line not ready are held, or any key to a keeper whose count passes 1,024, place 1,024"
+pub data KeyRefuses (k : Keeper) (c : ℕ) : ℕ → ℕ → Type 0 where
+  fullLine : anyOf (8 ∷ 24 ∷ []) c ≡ false → ready (held k) ≡ false → k .count ≡ 1024 → KeyRefuses k c 20 1024
+  passedCount : 1024 < k .count → KeyRefuses k c 20 1024
 
 -- ---- the reader
 
@@ -183,3 +190,27 @@ counting-comes r =
 
 pub count-list : (r : List ℕ) (n p : ℕ) → counting r ≡ bad n p → CountRefuses n p
 count-list r n p e = comes-bad CountRefuses Orders (counting r) n p (counting-comes r) e
+
+-- ---- a key
+
+-- where the line goes on, no key is refused but one to be held, and that at 1,024 bytes of a line not ready
+pub pressing-comes : (k : Keeper) (c : ℕ) → Comes (KeyRefuses k c) Whatever (pressing k c)
+unfolding pressing
+pressing-comes k c =
+    guard-comes (KeyRefuses k c) Whatever (leb (k .count) 1024) 20 1024 _ (λ y. passedCount (omega (arith, leb-false (k .count) 1024 y)))
+    (λ few.
+    pick-if (Comes (KeyRefuses k c) Whatever) (eqb c 8) (λ _. tt)
+    (λ y.
+    pick-if (Comes (KeyRefuses k c) Whatever) (eqb c 24) (λ _. tt)
+    (λ z.
+    guard-comes (KeyRefuses k c) Whatever (ltb (found k) 1024) 20 1024 (λ _. ok (stored k (found k) c))
+    (λ w. at-most (rw (y, z)) (leb-true (k .count) 1024 few) (omega (arith, ltb-false (found k) 1024 w))) (λ _. tt))))
+  where
+    at-most : anyOf (8 ∷ 24 ∷ []) c ≡ false → k .count ≤ 1024 → 1024 ≤ found k → KeyRefuses k c 20 1024
+    at-most h few most =
+        byBool (ready (held k))
+        (λ y. let none : found k ≡ 0 = rw y in absurd (omega (arith, none)))
+        (λ y. let all : found k ≡ k .count = rw y in fullLine h y (omega (arith, all)))
+
+pub key-list : (k : Keeper) (c n p : ℕ) → pressing k c ≡ bad n p → KeyRefuses k c n p
+key-list k c n p e = comes-bad (KeyRefuses k c) Whatever (pressing k c) n p (pressing-comes k c) e

@@ -34,3 +34,7 @@ pub mod EncodeDecode
 pub mod TextBound
 pub mod RecordBound
 pub mod AnswersFit
+pub mod KeeperIsList
+pub mod ReadyLine
+pub mod KeptLines
+pub mod KeyRows

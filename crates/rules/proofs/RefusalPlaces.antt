@@ -179,9 +179,20 @@ module _ (m : ℕ) where
 
 -- ---- the passes
 
+-- the reader's numbers once the `;` is found and nothing stands behind it
+abbrev pub ofCommand : List ℕ
+ofCommand = 8 ∷ 9 ∷ 10 ∷ 11 ∷ 12 ∷ 13 ∷ 14 ∷ 15 ∷ 16 ∷ 21 ∷ []
+
 -- the reader's numbers that have a byte of the text for their place: all but 1, 2, 6 and 17
 abbrev pub ofText : List ℕ
-ofText = 3 ∷ 4 ∷ 5 ∷ 7 ∷ 8 ∷ 9 ∷ 10 ∷ 11 ∷ 12 ∷ 13 ∷ 14 ∷ 15 ∷ 16 ∷ 21 ∷ []
+ofText = 3 ∷ 4 ∷ 5 ∷ 7 ∷ ofCommand
+
+any-later : (k : ℕ) (ks : List ℕ) (n : ℕ) → anyOf ks n ≡ true → anyOf (k ∷ ks) n ≡ true
+any-later k ks n h = byBool (eqb n k) (λ y. rw y) (λ y. rw y h)
+
+command-text : (n : ℕ) → anyOf ofCommand n ≡ true → anyOf ofText n ≡ true
+command-text n h =
+    any-later 3 (4 ∷ 5 ∷ 7 ∷ ofCommand) n (any-later 4 (5 ∷ 7 ∷ ofCommand) n (any-later 5 (7 ∷ ofCommand) n (any-later 7 ofCommand n h)))
 
 module _ (P : ℕ → ℕ → Type 0) (m : ℕ) (hit : (n p : ℕ) → anyOf ofText n ≡ true → p < m → P n p) where
   -- 3
@@ -268,8 +279,9 @@ module _ (P : ℕ → ℕ → Type 0) (m : ℕ) (hit : (n p : ℕ) → anyOf ofT
   run-comes (c ∷ cs) s p i h =
       next-comes (step s p c) (λ s′. run s′ (suc p) cs) (step-comes s p c i (omega arith)) (λ s′ i′. run-comes cs s′ (suc p) i′ (omega arith))
 
+module _ (P : ℕ → ℕ → Type 0) (m : ℕ) (hit : (n p : ℕ) → anyOf ofCommand n ≡ true → p < m → P n p) where
   -- 8, 10: pieces
-  pub pieces-come : (nr : ℕ) → anyOf ofText nr ≡ true → (f g : List ℕ → Bool) (left : ℕ) (due : Bool) (ts : List Token) (e : ℕ)
+  pub pieces-come : (nr : ℕ) → anyOf ofCommand nr ≡ true → (f g : List ℕ → Bool) (left : ℕ) (due : Bool) (ts : List Token) (e : ℕ)
       → Before m ts → e < m → Comes P Whatever (pieces nr f g left due ts e)
   pieces-come nr z f g left true [] e h k = hit nr e z k
   pieces-come nr z f g left false [] e h k = tt
@@ -476,7 +488,7 @@ module _ (P : ℕ → ℕ → Type 0) (m : ℕ) (hit : (n p : ℕ) → anyOf ofT
   running-blocks-come a (placedBlock k ps ∷ bs) h =
       bind-comes P Whatever Whatever (running a ps) (λ a′. runningBlocks a′ bs) (running-comes a ps (h .0)) (λ a′ y. running-blocks-come a′ bs (h .1))
 
-  -- 7, 8: the command; 6 has the text's end for its place
+  -- 8: the command
   pub segs-come : (bs : List Base) (ss : List Seg) → 0 < m → SegsIn m ss → Comes P Whatever (readSegs bs ss)
   segs-come bs [] z h = hit 8 0 refl z
   segs-come bs (seg ts e ∷ ss) z h =
@@ -485,9 +497,11 @@ module _ (P : ℕ → ℕ → Type 0) (m : ℕ) (hit : (n p : ℕ) → anyOf ofT
       bind-comes P (BlocksIn m) Whatever (readBlocks bs 0 0 e ss) _ (blocks-come bs 0 0 e ss (h .1) (h .2))
       (λ xs y. bind-comes P Whatever Whatever (runningBlocks 1 xs) _ (running-blocks-come 1 xs y) (λ _ _. tt)))
 
+-- 7: a token after the `;`; 6 has the text's end for its place
+module _ (P : ℕ → ℕ → Type 0) (m : ℕ) (hit : (n p : ℕ) → anyOf ofText n ≡ true → p < m → P n p) where
   pub cut-comes : (bs : List Base) (n : ℕ) (c : Cut) → P 6 n → CutIn m c → Comes P Whatever (readCut bs n c)
   cut-comes bs n uncut e h = e
-  cut-comes bs n (cut ts p []) e h = segs-come bs (split colon p ts) (omega (arith, h .1)) (split-in m colon p ts (h .1) (h .0))
+  cut-comes bs n (cut ts p []) e h = segs-come P m (λ i q z k. hit i q (command-text i z) k) bs (split colon p ts) (omega (arith, h .1)) (split-in m colon p ts (h .1) (h .0))
   cut-comes bs n (cut ts p (t ∷ us)) e h = hit 7 (posOf t) refl (h .2 .0)
 
 -- 1: the place is an index of the list, 32 at most

@@ -7,12 +7,14 @@ use tokens::Filled;
 // The refusal of a word or a string that is too long, and of other limits.
 const TOO_MANY: u8 = 15;
 
-// Keys of the catalogue's phrases: of a command and of a record that is too long (2), of a record (18), and of a name (21).
+// Keys of the catalogue's phrases: of a command and of a record that is too long (2), of a record (18), of a key (20), and of a name (21).
 const SHORTER: u8 = b's';
 
 const LONG_RECORD: u8 = b'r';
 
 const RECORD: u8 = b'r';
+
+const KEYS: u8 = b'k';
 
 const ONCE: u8 = b'o';
 
@@ -47,6 +49,7 @@ fn text_hint(line: &[u8], bases: &[u8], number: u8, place: usize) -> Hint {
         5 => text_hints::where_stray(line, place),
         18 => phrases::plain(RECORD),
         19 => text_hints::which_orders(place),
+        20 => phrases::plain(KEYS),
         21 => phrases::plain(ONCE),
         _ => phrases::plain(phrases::UNKNOWN),
     }

@@ -8,8 +8,10 @@ const GENERAL: u8 = b'.';
 
 // The refusal whose place is an index of the list of bases.
 const WRONG_BASE: u8 = 1;
-// The last refusal whose place is one in the line, but for NAME_TWICE: the later ones speak of a buffer, a record or an order.
+// The last refusal whose place is one in the line, but for NO_KEY and NAME_TWICE: the later ones speak of a buffer, a record or an order.
 const LAST_OF_LINE: u8 = 16;
+
+const NO_KEY: u8 = 20;
 
 const NAME_TWICE: u8 = 21;
 
@@ -43,7 +45,7 @@ fn write_place(fd: i32, line: &[u8], bases: &[u8], number: u8, place: usize) -> 
     if number == WRONG_BASE {
         return point(fd, bases, place);
     }
-    if number <= LAST_OF_LINE || number == NAME_TWICE {
+    if number <= LAST_OF_LINE || number == NO_KEY || number == NAME_TWICE {
         return point(fd, line, place);
     }
     window::write_line(fd, line)

@@ -1,30 +1,36 @@
 -- Each demand has its proof: the theorems of `rules` and `grammar` under the demands' names.
 use Prim.Native.Nat.{_≤_}
-use mathlib.Core.Path.{_≡_, sym, _∙_, subst}
+use mathlib.Core.Path.{_≡_, sym, ap, _∙_, subst}
 use native.Mathlib.Nat.{le-trans}
 use lib.ListN.{length}
-use Rattle.rules.proofs.AnswersFit.{reading-most, printing-most, ordering-most, counting-most}
+use Rattle.rules.proofs.AnswersFit.{reading-most, printing-most, ordering-most, counting-most, pressing-most}
 use Rattle.rules.proofs.CallRows.{reads-are, prints-are, orders-are, counts-are}
 use Rattle.rules.proofs.Capitals.{capitals}
 use Rattle.rules.proofs.DecodeEncode.{decode-encode}
 use Rattle.rules.proofs.DirectIsList.{count-is, direct-is}
 use Rattle.rules.proofs.EncodeDecode.{record-is, record-of}
-use Rattle.rules.proofs.FromTheList.{reader-list, printer-list, order-list, count-list}
+use Rattle.rules.proofs.FromTheList.{reader-list, printer-list, order-list, count-list, key-list}
+use Rattle.rules.proofs.KeeperIsList.{after-keys, answers-keys, fresh-keys}
+use Rattle.rules.proofs.KeptLines.{ready-last, accepted-typed}
+use Rattle.rules.proofs.KeyRows.{runs-are, full-line, keys-are}
 use Rattle.rules.proofs.Lines.{lines, example-is, at-limits}
 use Rattle.rules.proofs.NamesDiffer.{names-differ}
 use Rattle.rules.proofs.NeverLonger.{never-longer}
 use Rattle.rules.proofs.OrderFits.{order-fits}
 use Rattle.rules.proofs.OrderWellFormed.{order-wf}
 use Rattle.rules.proofs.ReadSound.{read-wf}
+use Rattle.rules.proofs.ReadyLine.{ready-line}
 use Rattle.rules.proofs.RecordBound.{record-bound}
 use Rattle.rules.proofs.RefusalRows.{cells-are, scanned-are}
 use Rattle.rules.proofs.RoundTrip.{read-print}
 use Rattle.rules.proofs.SoleOrder.{order-sole}
 use Rattle.rules.proofs.Tables.{classes-are, ranges-are, capitals-are, digits-are, keyed-are, letters-are, letters-only, words-are, units-are, units-listed, separators-are, unit-tags, tags-are, refusal-numbers, limits-are}
 use Rattle.rules.proofs.WellFormedIsReadable.{well-formed-is-readable}
+use Rattle.rules.specs.Reading.{read}
 use Rattle.rules.specs.Orders.{orderAt}
+use Rattle.rules.specs.Keeping.{held, keeperAfter}
 use Rattle.grammar.proofs.Exact.{sound, complete, unique, refused}
-use Rattle.theorems.specs.Demands.{Twelve, Example77, FromTheList, AnswersFit, Decided, CountDecided, Exact, Unique, Refused, ReadSound, NamesDiffer, Capitals, WellFormedIsReadable, RoundTrip, NeverLonger, DecodeEncode, EncodeDecode, RecordBound, DirectIsList, CountIsLength, Past, OrderWellFormed, OrderFits, SoleOrder, Accepts, ReadWithoutRoom, RefusedForRoomAlone, PrintsGivenRoom, PrintWithoutRoom, PrintThenRead, ReadThenPrint, OrdersGivenRoom, OrdersAreListed, SoleOrderOnBytes, ClassesOfBytes, RangesOfBytes, CapitalLetters, DigitsOfBases, KeyedDigits, BaseLetters, WordsByRule, UnitsOfACommand, SeparatorTexts, TableOfTags, RefusalNumbers, Limits, CellsOfRefusals, CallRows}
+use Rattle.theorems.specs.Demands.{Twelve, Example77, FromTheList, AnswersFit, Decided, CountDecided, KeyDecided, Exact, Unique, Refused, ReadSound, NamesDiffer, Capitals, WellFormedIsReadable, RoundTrip, NeverLonger, DecodeEncode, EncodeDecode, RecordBound, DirectIsList, CountIsLength, Past, OrderWellFormed, OrderFits, SoleOrder, Accepts, ReadWithoutRoom, RefusedForRoomAlone, PrintsGivenRoom, PrintWithoutRoom, PrintThenRead, ReadThenPrint, OrdersGivenRoom, OrdersAreListed, SoleOrderOnBytes, KeeperIsList, FreshKeeper, ReadyLine, AcceptedIsTyped, ReadyLast, ClassesOfBytes, RangesOfBytes, CapitalLetters, DigitsOfBases, KeyedDigits, BaseLetters, WordsByRule, UnitsOfACommand, SeparatorTexts, TableOfTags, RefusalNumbers, Limits, CellsOfRefusals, CallRows, KeyRows}
 use Rattle.theorems.proofs.Calls
 
 twelve-lines : Twelve
@@ -34,16 +40,19 @@ example-77 : Example77
 example-77 = example-is
 
 from-the-list : FromTheList
-from-the-list = (reader-list, printer-list, order-list, count-list)
+from-the-list = (reader-list, printer-list, order-list, count-list, key-list)
 
 answers-fit : AnswersFit
-answers-fit = (reading-most, printing-most, ordering-most, counting-most)
+answers-fit = (reading-most, printing-most, ordering-most, counting-most, pressing-most)
 
 decided : Decided
 decided result old a b new also p q = (p .answers ∙ sym (q .answers), p .holds ∙ sym (q .holds))
 
 count-decided : CountDecided
 count-decided r a b p q = p ∙ sym q
+
+key-decided : KeyDecided
+key-decided k c a b p q = p ∙ sym q
 
 exact : Exact
 exact letters text c = (sound letters text c, complete letters text c)
@@ -132,6 +141,22 @@ orders-listed = Calls.orders-are-listed
 sole-on-bytes : SoleOrderOnBytes
 sole-on-bytes = Calls.sole-order-on-bytes
 
+keeper-is-list : KeeperIsList
+keeper-is-list k keys h = (after-keys keys k h, answers-keys keys k h)
+
+fresh-keeper : FreshKeeper
+fresh-keeper = fresh-keys
+
+ready-for-the-reader : ReadyLine
+ready-for-the-reader letters k keys n p h r =
+    (ap (read letters) (after-keys keys k h), λ e. ready-line letters (held (keeperAfter k keys)) n p r e)
+
+accepted-is-typed : AcceptedIsTyped
+accepted-is-typed = accepted-typed
+
+last-byte-tells : ReadyLast
+last-byte-tells = ready-last
+
 classes-of-bytes : ClassesOfBytes
 classes-of-bytes = classes-are
 
@@ -173,3 +198,6 @@ cells-of-refusals = (cells-are, scanned-are)
 
 rows-of-calls : CallRows
 rows-of-calls = (reads-are, prints-are, orders-are, counts-are)
+
+rows-of-keys : KeyRows
+rows-of-keys = (runs-are, full-line, keys-are)

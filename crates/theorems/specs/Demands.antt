@@ -1,5 +1,5 @@
 -- What was asked for, as types: the user's words, and below them the statement. `proofs/Proved` has a term of each, under a name in small letters.
--- First the three demands; then the same over the four calls, on bytes; last the witnesses, tables from the paper for what reader, grammar and printer share.
+-- First the three demands; then the same over the four calls, on bytes; then the line keeper; last the witnesses, tables from the paper for what reader, grammar and printer share.
 use Prim.Native.Nat.{ℕ, _≤_, _<_}
 use mathlib.Core.Path.{_≡_}
 use mathlib.Core.Bool.{Bool, true, false, _&&_, not}
@@ -10,7 +10,9 @@ use lib.ListN.{length, getD}
 use Rattle.laws.specs.Keys.{anyOf}
 use Rattle.laws.specs.Lists.{all}
 use Rattle.rules.specs.declared.Answer.{Answer}
-use Rattle.rules.specs.Refusals.{Res, ok, bad, mapR, wrongLetter, tooLong, notPermitted, unclosed, noToken, noEnd, afterEnd, wrongCode, kindDiffers, wrongName, wrongShape, unreadable, tooBig, groupBroken, tooMany, tooManyOrders, noRoom, notWellFormed, noSuchOrder, nameTwice, mostLetters, mostText, mostWord, mostPrefixed, mostString, moreOfCode, moreOfName, mostBlocks, mostPlaces, mostLeading, mostElements, mostArguments, mostOrders, mostValue, mostFraction}
+use Rattle.rules.specs.declared.Keeper.{Keeper}
+use Rattle.rules.specs.declared.Pressed.{Pressed}
+use Rattle.rules.specs.Refusals.{Res, ok, bad, mapR, wrongLetter, tooLong, notPermitted, unclosed, noToken, noEnd, afterEnd, wrongCode, kindDiffers, wrongName, wrongShape, unreadable, tooBig, groupBroken, tooMany, tooManyOrders, noRoom, notWellFormed, noSuchOrder, noKey, nameTwice, mostLetters, mostText, mostWord, mostPrefixed, mostString, moreOfCode, moreOfName, mostBlocks, mostPlaces, mostLeading, mostElements, mostArguments, mostOrders, mostValue, mostFraction}
 use Rattle.rules.specs.Characters.{bytes, capital, isLetter, isDigit, isAlnum, isEffector, isPermitted, isWordChar, isSymbolChar}
 use Rattle.rules.specs.Units.{rD, rH, rO, rB, letter, baseOf, radixAt, baseAt, Unit, keyed, isKey, isHeldKey}
 use Rattle.rules.specs.Commands.{Place, Block, block, Command, command, placeName, commandUnits}
@@ -20,8 +22,11 @@ use Rattle.rules.specs.WellFormed.{wellFormed, recordOf}
 use Rattle.rules.specs.Printing.{print}
 use Rattle.rules.specs.Orders.{orders, orderAt, count}
 use Rattle.rules.specs.Answers.{reading, printing, ordering, counting, answered, valueOf, Promise, Counts}
+use Rattle.rules.specs.Keeping.{ready, press, Possible, held, pressing, afterKey, lineAfter, lineAnswers, keeperAfter, keeperAnswers}
 use Rattle.rules.proofs.Lines.{found, stated, twelve, example, example77, answer, due, limits, tally, expected}
-use Rattle.rules.proofs.FromTheList.{ReaderRefuses, PrinterRefuses, OrderRefuses, CountRefuses}
+use Rattle.rules.proofs.FromTheList.{ReaderRefuses, PrinterRefuses, OrderRefuses, CountRefuses, KeyRefuses}
+use Rattle.rules.proofs.KeptLines.{lastEnds, Typed}
+use Rattle.rules.proofs.KeyRows.{runFound, runStated, runs, most, full, keyFound, keyStated, keys}
 use Rattle.rules.proofs.RefusalRows.{cells, scanned}
 use Rattle.rules.proofs.CallRows.{readFound, readStated, reads, printFound, printStated, prints, orderFound, orderStated, ordersAsked, countFound, countStated, countsAsked}
 use Rattle.rules.proofs.Tables.{opens, tested, printed, classes, members, ranges, baseFound, baseStated, baseRows, five, isBase, wordFound, wordStated, wordRows, unitFound, unitStated, unitRows, unitsRead, unitsDue, sepFound, sepStated, sepRows, whole, wholeRecord}
@@ -46,6 +51,7 @@ FromTheList =
     × ((r old : List ℕ) (n p : ℕ) → printing r old ≡ bad n p → PrinterRefuses old n p)
     × ((r : List ℕ) (k : ℕ) (old : List ℕ) (n p : ℕ) → ordering r k old ≡ bad n p → OrderRefuses r k old n p)
     × ((r : List ℕ) (n p : ℕ) → counting r ≡ bad n p → CountRefuses n p)
+    × ((k : Keeper) (c n p : ℕ) → pressing k c ≡ bad n p → KeyRefuses k c n p)
 
 -- bytes written, number of orders or place: every value fits the 32 bits that the answer has for it
 abbrev pub AnswersFit : Type 0
@@ -54,6 +60,7 @@ AnswersFit =
     × ((r old : List ℕ) → valueOf (answered (mapR length (printing r old))) ≤ 65536)
     × ((r : List ℕ) (k : ℕ) (old : List ℕ) → valueOf (answered (mapR length (ordering r k old))) ≤ 65536)
     × ((r : List ℕ) → valueOf (answered (counting r)) ≤ 65536)
+    × ((k : Keeper) (c : ℕ) → valueOf (afterKey k c .answer) ≤ 65536)
 
 -- "Any two results satisfying it are proved equal"
 abbrev pub Decided : Type 0
@@ -63,6 +70,9 @@ Decided =
 
 abbrev pub CountDecided : Type 0
 CountDecided = (r : List ℕ) (a b : Answer) → Counts r a → Counts r b → a ≡ b
+
+abbrev pub KeyDecided : Type 0
+KeyDecided = (k : Keeper) (c : ℕ) (a b : Pressed) → a ≡ afterKey k c → b ≡ afterKey k c → a ≡ b
 
 -- ======== demand 2: commands and records
 
@@ -230,6 +240,36 @@ abbrev pub SoleOrderOnBytes : Type 0
 SoleOrderOnBytes =
     (r o t old new also : List ℕ) (k : ℕ) → ordering r k old ≡ ok o → printing r new ≡ ok t → length o ≤ length also → Sole o new also
 
+-- ======== M-100: the line keeper
+
+-- "For every run of keys it must do what a plain list of bytes with these rules does": what is held, and the answer to each key, refusals included; from any keeper whose
+-- count does not pass 1,024
+abbrev pub KeeperIsList : Type 0
+KeeperIsList =
+    (k : Keeper) (keys : List ℕ) → Possible k
+    → (held (keeperAfter k keys) ≡ lineAfter (held k) keys) × (keeperAnswers k keys ≡ lineAnswers (held k) keys)
+
+-- the same from a fresh one, whatever its bytes are
+abbrev pub FreshKeeper : Type 0
+FreshKeeper =
+    (k : Keeper) (keys : List ℕ) → length (k .bytes) ≡ mostText → k .count ≡ 0
+    → (held (keeperAfter k keys) ≡ lineAfter [] keys) × (keeperAnswers k keys ≡ lineAnswers [] keys)
+
+-- "a ready line goes to the reader unchanged": the bytes that the list holds, and these are never refused with 4, 6 or 7
+abbrev pub ReadyLine : Type 0
+ReadyLine =
+    (letters : List ℕ) (k : Keeper) (keys : List ℕ) (n p : ℕ) → Possible k → ready (held (keeperAfter k keys)) ≡ true
+    → (read letters (held (keeperAfter k keys)) ≡ read letters (lineAfter (held k) keys))
+    × (read letters (held (keeperAfter k keys)) ≡ bad n p → anyOf (unclosed ∷ noEnd ∷ afterEnd ∷ []) n ≡ false)
+
+-- and back: of a text that the reader accepts some beginning, typed key by key, is held as it is and makes the line ready
+abbrev pub AcceptedIsTyped : Type 0
+AcceptedIsTyped = (letters text : List ℕ) (c : Command) → read letters text ≡ ok c → Typed text
+
+-- "A `;` outside string and comment makes the line ready": of a line that keys made, the last byte alone tells
+abbrev pub ReadyLast : Type 0
+ReadyLast = (keys : List ℕ) → ready (lineAfter [] keys) ≡ lastEnds (lineAfter [] keys)
+
 -- ======== witnesses: characters, digits, letters
 
 -- "The classes of bytes 0 to 127 are one constant table."; no byte from 128 on is permitted
@@ -287,8 +327,8 @@ TableOfTags =
 abbrev pub RefusalNumbers : Type 0
 RefusalNumbers =
     (wrongLetter ∷ tooLong ∷ notPermitted ∷ unclosed ∷ noToken ∷ noEnd ∷ afterEnd ∷ wrongCode ∷ kindDiffers ∷ wrongName ∷ wrongShape ∷ unreadable ∷ tooBig
-    ∷ groupBroken ∷ tooMany ∷ tooManyOrders ∷ noRoom ∷ notWellFormed ∷ noSuchOrder ∷ nameTwice ∷ [])
-    ≡ 1 ∷ 2 ∷ 3 ∷ 4 ∷ 5 ∷ 6 ∷ 7 ∷ 8 ∷ 9 ∷ 10 ∷ 11 ∷ 12 ∷ 13 ∷ 14 ∷ 15 ∷ 16 ∷ 17 ∷ 18 ∷ 19 ∷ 21 ∷ []
+    ∷ groupBroken ∷ tooMany ∷ tooManyOrders ∷ noRoom ∷ notWellFormed ∷ noSuchOrder ∷ noKey ∷ nameTwice ∷ [])
+    ≡ 1 ∷ 2 ∷ 3 ∷ 4 ∷ 5 ∷ 6 ∷ 7 ∷ 8 ∷ 9 ∷ 10 ∷ 11 ∷ 12 ∷ 13 ∷ 14 ∷ 15 ∷ 16 ∷ 17 ∷ 18 ∷ 19 ∷ 20 ∷ 21 ∷ []
 
 -- the limits by name, and for each the last line that is read and the first that is refused
 abbrev pub Limits : Type 0
@@ -306,3 +346,9 @@ abbrev pub CallRows : Type 0
 CallRows =
     (map readFound reads ≡ map readStated reads) × (map printFound prints ≡ map printStated prints)
     × (map orderFound ordersAsked ≡ map orderStated ordersAsked) × (map countFound countsAsked ≡ map countStated countsAsked)
+
+-- M-100: runs of keys, keys to a full line, and one key to a keeper: number, value and every byte of it
+abbrev pub KeyRows : Type 0
+KeyRows =
+    (map runFound runs ≡ map runStated runs) × (map (press full) (65 ∷ 59 ∷ 8 ∷ 24 ∷ []) ≡ bad noKey 1024 ∷ bad noKey 1024 ∷ ok most ∷ ok [] ∷ [])
+    × (map keyFound keys ≡ map keyStated keys)

@@ -1,6 +1,8 @@
 // Runs the lines of standard input through the library, and writes what came of each. A line is
-// `BASES|COMMAND`, `@BASES|COMMAND` where the orders are asked for, or `#RECORD` with the record in
-// hexadecimal.
+// `BASES|COMMAND`, `@BASES|COMMAND` where the orders are asked for, `#RECORD` with the record in
+// hexadecimal, or `!KEYS` with the keys in hexadecimal.
+mod keys;
+
 use figures::Decoded;
 use figures::front;
 use libc::STDOUT_FILENO;
@@ -57,6 +59,7 @@ fn run_line(line: &[u8]) {
     match byte(line, 0) {
         b'#' => run_record(behind(line, 0)),
         b'@' => run_command(behind(line, 0), true),
+        b'!' => keys::run(behind(line, 0)),
         _ => run_command(line, false),
     }
     io::write_all(STDOUT_FILENO, b"\n");

@@ -39,10 +39,12 @@ pub enum Verb {
     Bases,
 }
 
-// What the words ask. Where they are wrong, that has been said.
+// What the words ask: of lines that are commands or records; of keys, on a terminal with so many columns. Where they are wrong, that
+// has been said.
 pub enum Asked {
     Commands(Verb),
     Records(Verb),
+    Keys(u64),
     Wrong,
 }
 
@@ -95,7 +97,7 @@ fn what_of(k: u64) -> Asked {
     command_verb(&word[..n], k)
 }
 
-// What a verb on commands asks.
+// What a verb on commands, or on the keys of commands, asks.
 fn command_verb(word: &[u8], k: u64) -> Asked {
     if is(word, b"check") {
         return Asked::Commands(Verb::Check);
@@ -108,6 +110,9 @@ fn command_verb(word: &[u8], k: u64) -> Asked {
     }
     if is(word, b"order") {
         return Asked::Commands(Verb::Order(k));
+    }
+    if is(word, b"keys") {
+        return Asked::Keys(k);
     }
     record_verb(word)
 }

@@ -3,7 +3,8 @@
 //! `bench [BATCHES]`: each row times one call on both sides. Batches of calls alternate
 //! between library and model; a row shows the median batch of each side. Buffers are as large
 //! as any answer needs and are not cleared between calls. A row begins with the name of its
-//! command.
+//! command. The rows of `key` begin with the key instead: it is taken to a keeper that holds so
+//! many letters; the keeper's count is set back before each call, on both sides alike.
 //!
 //! `bench rows` names the rows; `bench run ROW SIDE CALLS` makes calls of one side of a row and
 //! nothing else, for the script `instructions`.
@@ -59,6 +60,12 @@ const SMALL_LETTERS: &str = concat!(
 /// Few values with many orders: its first and its last order alone are timed.
 const WIDE: &str = "A:0&&4094,0&&15;";
 
+/// The keys that are timed, each under the name that its rows have.
+const KEYS: [(&str, u8); 2] = [("letter", b'A'), ("semicolon", b';')];
+
+/// The bytes that a keeper holds when a key is timed.
+const HELD: [u32; 2] = [10, 1_000];
+
 const HEAD: &str = "command       call    text  record      k";
 
 /// A call on one side: gives the answer's value.
@@ -69,7 +76,7 @@ struct Row<'a> {
     command: &'static str,
     call: &'static str,
     text: usize,
-    record: usize,
+    record: Option<usize>,
     k: Option<u64>,
     library: Side<'a>,
     model: Side<'a>,
@@ -109,13 +116,18 @@ fn table(batches: usize) {
     );
     println!("{HEAD} {:>9} {:>9} {:>6}", "library", "model", "ratio");
     let times: Vec<(f64, f64)> = commands.rows().map(|row| row.time(batches)).collect();
-    if let [.., (library_first, model_first), (library_last, model_last)] = times[..] {
-        println!(
-            "last k of {WIDE} against k = 0: library {:.2}, model {:.2}",
-            library_last / library_first,
-            model_last / model_first
-        );
+    if let [few, many, .., first, last] = times[..] {
+        let [few_held, many_held] = HELD;
+        let letter = format!("a letter at {many_held} bytes held against {few_held}");
+        against(&letter, many, few);
+        against(&format!("last k of {WIDE} against k = 0"), last, first);
     }
+}
+
+/// Tells how the times of one row, library and model, are to those of another.
+fn against(what: &str, one: (f64, f64), other: (f64, f64)) {
+    let (library, model) = (one.0 / other.0, one.1 / other.1);
+    println!("{what}: library {library:.2}, model {model:.2}");
 }
 
 /// Names every row.
@@ -181,9 +193,11 @@ impl Commands {
         Commands(COMMANDS.map(command).into())
     }
 
-    /// Every row.
+    /// Every row: those of keys, then those of the commands.
     fn rows(&self) -> impl Iterator<Item = Row<'_>> {
-        self.0.iter().flat_map(Command::rows)
+        let keys = KEYS.into_iter();
+        let keys = keys.flat_map(|(name, typed)| HELD.map(|held| key(name, typed, held)));
+        keys.chain(self.0.iter().flat_map(Command::rows))
     }
 }
 
@@ -199,6 +213,32 @@ fn record_of(text: &str) -> Vec<u8> {
     record
 }
 
+/// A key to a keeper that holds so many letters. What the call changes of the keeper is its count,
+/// which is set back before it, and the byte that the key is held in. The value that is given is 1,
+/// and 2 for a line that is ready.
+fn key(name: &'static str, typed: u8, held: u32) -> Row<'static> {
+    let bytes = [b'A'; mml::TEXT_MAX];
+    let mut keeper = mml::Keeper { bytes, count: held };
+    let mut other = model::Keeper { bytes, count: held };
+    Row {
+        command: name,
+        call: "key",
+        text: held as usize,
+        record: None,
+        k: None,
+        library: Box::new(move || {
+            keeper.count = held;
+            let answer = black_box(&mut keeper).key(black_box(typed));
+            answer.map_or(0, |ready| 1 + u32::from(ready))
+        }),
+        model: Box::new(move || {
+            other.count = held;
+            let answer = model::key(black_box(&mut other), black_box(typed));
+            answer.map_or(0, |ready| 1 + u32::from(ready))
+        }),
+    }
+}
+
 fn read(command: &Command) -> Row<'_> {
     let bytes = command.text.as_bytes();
     let mut out = vec![0; mml::RECORD_MAX];
@@ -207,7 +247,7 @@ fn read(command: &Command) -> Row<'_> {
         command: command.name,
         call: "read",
         text: bytes.len(),
-        record: command.record.len(),
+        record: Some(command.record.len()),
         k: None,
         library: Box::new(move || {
             let answer = mml::read(black_box(bytes), b"", black_box(&mut out));
@@ -228,7 +268,7 @@ fn print(command: &Command) -> Row<'_> {
         command: command.name,
         call: "print",
         text: command.text.len(),
-        record: record.len(),
+        record: Some(record.len()),
         k: None,
         library: Box::new(move || {
             let answer = mml::print(black_box(record), black_box(&mut out));
@@ -247,7 +287,7 @@ fn count(command: &Command) -> Row<'_> {
         command: command.name,
         call: "count",
         text: command.text.len(),
-        record: record.len(),
+        record: Some(record.len()),
         k: None,
         library: Box::new(move || mml::count(black_box(record)).unwrap_or(0)),
         model: Box::new(move || model::count(black_box(record)).unwrap_or(0)),
@@ -262,7 +302,7 @@ fn order(command: &Command, k: u64) -> Row<'_> {
         command: command.name,
         call: "order",
         text: command.text.len(),
-        record: record.len(),
+        record: Some(record.len()),
         k: Some(k),
         library: Box::new(move || {
             let answer = mml::order(black_box(record), black_box(k), black_box(&mut out));
@@ -278,10 +318,14 @@ fn order(command: &Command, k: u64) -> Row<'_> {
 impl Row<'_> {
     /// What the row is about, under `HEAD`.
     fn name(&self) -> String {
-        let k = self.k.map_or(String::from("-"), |k| k.to_string());
+        let shown = |number: Option<u64>| number.map_or("-".into(), |number| number.to_string());
         format!(
             "{:<13} {:<6} {:>5} {:>7} {:>6}",
-            self.command, self.call, self.text, self.record, k
+            self.command,
+            self.call,
+            self.text,
+            shown(self.record.map(|bytes| bytes as u64)),
+            shown(self.k)
         )
     }
 

@@ -1,5 +1,6 @@
 //! One call to the library and one to the model, compared in answer and buffer.
 
+use crate::keepers;
 use crate::library::Library;
 use crate::random::Random;
 
@@ -17,13 +18,15 @@ pub enum Call<'i> {
     Order(&'i [u8], u64),
     /// A record.
     Count(&'i [u8]),
+    /// A keeper, which is what the buffer holds before, and a key.
+    Key(&'i [u8], u8),
 }
 
 /// The answers and the bytes written, alike on both sides.
 pub struct Outcome {
     /// The answer.
     pub answer: Answer,
-    /// What stands at the buffer's start on success.
+    /// What stands at the buffer's start on success; of a key the whole keeper.
     pub bytes: Vec<u8>,
 }
 
@@ -40,8 +43,14 @@ impl Call<'_> {
     ) -> Result<Outcome, Difference> {
         let fill = random.next();
         let before: Vec<u8> = (0..room).map(|at| filling(fill, at)).collect();
-        let mut out = before.clone();
-        let mut expected = before.clone();
+        self.compare_on(library, &before)
+    }
+
+    /// Runs the call with this buffer on both sides.
+    pub fn compare_on(self, library: &mut Library, before: &[u8]) -> Result<Outcome, Difference> {
+        let room = before.len();
+        let mut out = before.to_vec();
+        let mut expected = before.to_vec();
         let answer = library
             .call(&self, &mut out)
             .map_err(|what| self.alone(&what))?;
@@ -55,6 +64,7 @@ impl Call<'_> {
         }
         let written = match (self, answer) {
             (Call::Count(_), _) | (_, Err(_)) => 0,
+            (Call::Key(..), Ok(_)) => room,
             (_, Ok(length)) => length as usize,
         };
         if written > room || expected[written..] != before[written..] {
@@ -67,11 +77,12 @@ impl Call<'_> {
         })
     }
 
-    /// The inputs that are slices.
+    /// The inputs that are slices and not the buffer.
     pub fn inputs(&self) -> (&[u8], &[u8]) {
         match self {
             Call::Read(text, bases) => (text, bases),
             Call::Print(record) | Call::Order(record, _) | Call::Count(record) => (record, &[]),
+            Call::Key(..) => (&[], &[]),
         }
     }
 
@@ -83,6 +94,7 @@ impl Call<'_> {
             Call::Print(_) => Call::Print(first),
             Call::Order(_, k) => Call::Order(first, *k),
             Call::Count(_) => Call::Count(first),
+            Call::Key(_, key) => Call::Key(first, *key),
         }
     }
 
@@ -94,6 +106,7 @@ impl Call<'_> {
             Call::Print(record) => model::print(record, out).map(length),
             Call::Order(record, k) => model::order(record, *k, out).map(length),
             Call::Count(record) => model::count(record),
+            Call::Key(_, key) => model_key(out, *key).map(u32::from),
         }
         .map_err(|refusal| (u32::from(refusal.number), refusal.place))
     }
@@ -113,19 +126,28 @@ impl Call<'_> {
 
     /// The input in full, as text and as bytes.
     pub fn inputs_in_full(&self) -> String {
-        let (name, k) = match self {
-            Call::Read(..) => ("read", String::new()),
-            Call::Print(_) => ("print", String::new()),
-            Call::Order(_, k) => ("order", format!("k        {k}\n")),
-            Call::Count(_) => ("count", String::new()),
+        let (name, k, input) = match self {
+            Call::Read(text, _) => ("read", String::new(), text),
+            Call::Print(record) => ("print", String::new(), record),
+            Call::Order(record, k) => ("order", format!("k        {k}\n"), record),
+            Call::Count(record) => ("count", String::new(), record),
+            Call::Key(keeper, key) => ("key", format!("key      {key}\n"), keeper),
         };
-        let (first, second) = self.inputs();
-        let mut shown = format!("call     {name}\n{k}{}", bytes_in_full("input", first));
-        if let Call::Read(..) = self {
-            shown.push_str(&bytes_in_full("bases", second));
+        let mut shown = format!("call     {name}\n{k}{}", bytes_in_full("input", input));
+        if let Call::Read(_, bases) = self {
+            shown.push_str(&bytes_in_full("bases", bases));
         }
         shown
     }
+}
+
+/// Has the model take a key to the keeper that the buffer is.
+fn model_key(buffer: &mut [u8], key: u8) -> Result<bool, model::Refusal> {
+    let (bytes, count) = keepers::parts(buffer);
+    let mut keeper = model::Keeper { bytes, count };
+    let answer = model::key(&mut keeper, key);
+    buffer.copy_from_slice(&keepers::keeper(&keeper.bytes, keeper.count));
+    answer
 }
 
 fn bytes_in_full(name: &str, bytes: &[u8]) -> String {

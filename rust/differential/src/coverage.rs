@@ -6,7 +6,7 @@ use crate::compare::{Answer, Call};
 const NUMBERS: usize = 22;
 
 /// Each call, and the numbers that it can answer.
-const CALLS: [(&str, &[usize]); 4] = [
+const CALLS: [(&str, &[usize]); 5] = [
     (
         "read",
         &[
@@ -16,6 +16,7 @@ const CALLS: [(&str, &[usize]); 4] = [
     ("print", &[0, 2, 17, 18]),
     ("order", &[0, 17, 18, 19]),
     ("count", &[0, 18]),
+    ("key", &[0, 20]),
 ];
 
 /// Whether a call can answer this number.
@@ -36,6 +37,7 @@ impl Coverage {
             Call::Print(_) => 1,
             Call::Order(..) => 2,
             Call::Count(_) => 3,
+            Call::Key(..) => 4,
         };
         let number = answer.err().map_or(0, |(number, _)| number as usize);
         self.0[kind][number] += 1;
@@ -65,6 +67,23 @@ impl Coverage {
     }
 }
 
+/// Something that a run must have seen, and how often it was.
+pub type Sight = (&'static str, u64);
+
+/// What was never seen.
+pub fn unseen(sights: &[Sight]) -> Vec<String> {
+    let unseen = sights.iter().filter(|(_, times)| *times == 0);
+    unseen.map(|(sight, _)| sight.to_string()).collect()
+}
+
+/// A line with what was seen.
+pub fn show(sights: &[Sight]) {
+    let seen = sights
+        .iter()
+        .map(|(sight, times)| format!("{sight}: {times}"));
+    println!("{}", seen.collect::<Vec<String>>().join(", "));
+}
+
 #[cfg(test)]
 mod tests {
     use super::{is_answer, Coverage, CALLS, NUMBERS};
@@ -77,6 +96,7 @@ mod tests {
             Call::Print(b""),
             Call::Order(b"", 0),
             Call::Count(b""),
+            Call::Key(b"", 0),
         ];
         let mut coverage = Coverage::default();
         for (kind, (_, numbers)) in CALLS.iter().enumerate() {
@@ -93,19 +113,20 @@ mod tests {
 
     #[test]
     fn what_no_call_answered_is_missing() {
-        assert_eq!(Coverage::default().missing().len(), 29);
+        assert_eq!(Coverage::default().missing().len(), 31);
         assert_eq!(all_but((0, 16)), ["read 16"]);
         assert_eq!(all_but((2, 19)), ["order 19"]);
         assert_eq!(all_but((3, 0)), ["count 0"]);
+        assert_eq!(all_but((4, 20)), ["key 20"]);
         assert!(all_but((9, 9)).is_empty());
     }
 
     #[test]
     fn every_refusal_belongs_to_a_call() {
-        for number in (0..=19).chain([21]) {
+        for number in 0..NUMBERS as u32 {
             assert!(is_answer(number));
         }
-        for number in [20, NUMBERS as u32, u32::MAX] {
+        for number in [NUMBERS as u32, u32::MAX] {
             assert!(!is_answer(number));
         }
     }

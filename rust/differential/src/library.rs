@@ -1,7 +1,8 @@
 //! The proved library: linked in (feature `direct`), or behind a server program that `MML_SERVER` names.
 //!
 //! Either way the buffers that the library is lent stand between watched bytes, at every
-//! alignment; the server has them also next to pages without access.
+//! alignment, keepers at those that they may have; the server has them also next to pages
+//! without access.
 
 use std::env;
 use std::io::{self, Read, Write};
@@ -83,7 +84,8 @@ fn answer_of(answer: u64) -> Result<Answer, String> {
 #[cfg(feature = "direct")]
 mod direct {
     use crate::compare::Call;
-    use crate::watched::Watched;
+    use crate::keepers;
+    use crate::watched::{Watched, WatchedKeeper};
 
     /// Makes the call with watched copies of its buffers.
     pub fn call(call: &Call, out: &mut [u8], turn: usize) -> Result<u64, String> {
@@ -93,7 +95,8 @@ mod direct {
         let answer = linked(
             &call.lent(inputs[0].buffer(), inputs[1].buffer()),
             lent.buffer_mut(),
-        );
+            turn,
+        )?;
         out.copy_from_slice(lent.buffer());
         if !lent.is_unharmed() {
             return Err("a byte beside the buffer is written".into());
@@ -106,18 +109,36 @@ mod direct {
     }
 
     /// Calls the wrapper; gives the answer as the C interface has it.
-    fn linked(call: &Call, out: &mut [u8]) -> u64 {
+    fn linked(call: &Call, out: &mut [u8], turn: usize) -> Result<u64, String> {
         let length = |length| length as u32;
         let answer = match call {
             Call::Read(text, bases) => mml::read(text, bases, out).map(length),
             Call::Print(record) => mml::print(record, out).map(length),
             Call::Order(record, k) => mml::order(record, *k, out).map(length),
             Call::Count(record) => mml::count(record),
+            Call::Key(_, key) => linked_key(*key, out, turn)?.map(u32::from),
         };
-        match answer {
+        Ok(match answer {
             Ok(value) => u64::from(value),
             Err(refusal) => u64::from(refusal.number()) << 32 | u64::from(refusal.place()),
+        })
+    }
+
+    /// Takes a key to a watched copy of the keeper that the buffer is.
+    fn linked_key(
+        key: u8,
+        out: &mut [u8],
+        turn: usize,
+    ) -> Result<Result<bool, mml::Refusal>, String> {
+        let (bytes, count) = keepers::parts(out);
+        let mut lent = WatchedKeeper::with(turn, mml::Keeper { bytes, count });
+        let answer = lent.keeper_mut().key(key);
+        let keeper = lent.keeper();
+        out.copy_from_slice(&keepers::keeper(&keeper.bytes, keeper.count));
+        if !lent.is_unharmed() {
+            return Err("a byte beside the keeper is written".into());
         }
+        Ok(answer)
     }
 }
 
@@ -178,6 +199,7 @@ fn request(call: &Call, out: &[u8]) -> Vec<u8> {
         Call::Print(_) => (1, 0),
         Call::Order(_, k) => (2, *k),
         Call::Count(_) => (3, 0),
+        Call::Key(_, key) => (4, u64::from(*key)),
     };
     let (first, second) = call.inputs();
     let mut request = vec![number];
@@ -206,8 +228,9 @@ mod tests {
     fn an_answer_is_taken_apart_whole() {
         assert_eq!(answer_of(77), Ok(Ok(77)));
         assert_eq!(answer_of((19 << 32) + 3), Ok(Err((19, 3))));
+        assert_eq!(answer_of((20 << 32) + 1024), Ok(Err((20, 1024))));
         assert_eq!(answer_of((21 << 32) + 8), Ok(Err((21, 8))));
-        for number in [20, 256, 256 + 14, 1 << 31] {
+        for number in [22, 256, 256 + 14, 1 << 31] {
             assert!(answer_of(number << 32).is_err());
         }
     }

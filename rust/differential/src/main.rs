@@ -3,8 +3,9 @@
 //! `differential [SEED [COUNT [show]]]` takes the lines of the documents and then makes inputs
 //! from SEED, COUNT in all: commands that are right, nearly right and damaged, and records of
 //! all kinds. Each goes through the calls on both
-//! sides, with buffers that are large, just fit, are one byte too short and empty. Answers and
-//! all bytes must be alike. Then the library alone must keep what its calls promise together.
+//! sides, with buffers that are large, just fit, are one byte too short and empty. Other inputs
+//! are runs of keys to a keeper. Answers and all bytes must be alike, a keeper's too. Then the
+//! library alone must keep what its calls promise together.
 //! The first difference ends the run with the input in full. With `show` each input is
 //! printed before it is tried, for a library that does not return.
 //!
@@ -12,11 +13,13 @@
 //! until there are, and fails if a quarter of an hour is not enough. It fails too unless every
 //! call gave each answer that it can give: success and, all calls together, every refusal; and
 //! unless the inputs that were made had numerals in small letters, read in commands and refused
-//! in records. The same SEED gives the same inputs.
+//! in records, and showed all that keys do. The same SEED gives the same inputs.
 
 mod commands;
 mod compare;
 mod coverage;
+mod keepers;
+mod keys;
 mod library;
 mod lines;
 mod names;
@@ -32,6 +35,7 @@ use std::time::{Duration, Instant};
 
 use compare::{Answer, Call, Difference, Outcome};
 use coverage::Coverage;
+use keys::{Keys, READY};
 use library::Library;
 use random::Random;
 use small_letters::SmallLetters;
@@ -51,13 +55,17 @@ const COUNT: u64 = 400_000;
 /// The refusal of a text that is or would be too long.
 const TEXT_TOO_LONG: u32 = 2;
 
+/// The refusals of a text that does not end as a ready line does: a string or comment not closed,
+/// no `;`, something behind it.
+const WRONG_ENDS: [u32; 3] = [4, 6, 7];
+
 /// The refusal of a buffer that is too short.
 const BUFFER_TOO_SHORT: u32 = 17;
 
 /// More than any record takes.
 const ROOM: usize = 65_536;
 
-/// No text is longer.
+/// No text is longer, and no line that is kept.
 const TEXT: usize = 1_024;
 
 fn main() -> ExitCode {
@@ -124,6 +132,7 @@ struct Run {
     longest_record: usize,
     answers: Coverage,
     small_letters: SmallLetters,
+    keys: Keys,
     /// Records of accepted commands.
     pool: Vec<Vec<u8>>,
 }
@@ -141,6 +150,7 @@ impl Run {
             longest_record: 0,
             answers: Coverage::default(),
             small_letters: SmallLetters::default(),
+            keys: Keys::default(),
             pool: vec![vec![1, 0, 1, b'A']],
         }
     }
@@ -155,7 +165,12 @@ impl Run {
             self.inputs += 1;
         }
         self.summary(start.elapsed());
-        match [self.answers.missing(), self.small_letters.missing()].concat() {
+        let missing = [
+            self.answers.missing(),
+            self.small_letters.missing(),
+            self.keys.missing(),
+        ];
+        match missing.concat() {
             missing if missing.is_empty() => Ok(()),
             missing => Err(format!("NEVER SEEN: {}", missing.join(", "))),
         }
@@ -163,8 +178,14 @@ impl Run {
 
     /// Tries the next input.
     fn one_input(&mut self) -> Result<(), Difference> {
-        if let Some((text, bases)) = lines::LINES.get(self.inputs as usize) {
+        let given = self.inputs as usize;
+        if let Some((text, bases)) = lines::LINES.get(given) {
             self.command(text.as_bytes(), bases.as_bytes())
+        } else if let Some(keys) = lines::KEYS.get(given - lines::LINES.len()) {
+            self.keys(keepers::empty(), keys.as_bytes())
+        } else if self.random.one_in(6) {
+            let typed = keepers::typed(&mut self.random);
+            self.keys(typed.keeper, &typed.keys)
         } else if self.random.one_in(3) {
             let one = self.random.below(self.pool.len());
             let other = self.random.below(self.pool.len());
@@ -174,6 +195,49 @@ impl Run {
         } else {
             let command = commands::command(&mut self.random);
             self.command(&command.text, &command.bases)
+        }
+    }
+
+    /// Whether the input is made, and not given.
+    fn is_made(&self) -> bool {
+        self.inputs as usize >= lines::LINES.len() + lines::KEYS.len()
+    }
+
+    /// Tries keys, one by one, to a keeper, and reads every line that is ready.
+    fn keys(&mut self, mut keeper: Vec<u8>, keys: &[u8]) -> Result<(), Difference> {
+        for &key in keys {
+            let call = Call::Key(&keeper, key);
+            self.announce(call);
+            let outcome = call.compare_on(&mut self.library, &keeper)?;
+            self.calls += 1;
+            self.answers.note(call, outcome.answer);
+            if self.is_made() {
+                self.keys.note(&keeper, key, &outcome);
+            }
+            if outcome.answer == Ok(READY) {
+                self.ready(call, keepers::line(&outcome.bytes))?;
+            }
+            if outcome.answer.is_ok() {
+                keeper = outcome.bytes;
+            }
+        }
+        Ok(())
+    }
+
+    /// Reads the line that this key made ready: it has the end that it must have.
+    fn ready(&mut self, key: Call, line: &[u8]) -> Result<(), Difference> {
+        match self.all_rooms(Call::Read(line, b""))?.answer {
+            Err((number, place)) if WRONG_ENDS.contains(&number) => {
+                Err(key.alone(&format!("the ready line is refused: {number} at {place}")))
+            }
+            _ => Ok(()),
+        }
+    }
+
+    /// Prints a call before it is tried, if that is asked for.
+    fn announce(&self, call: Call) {
+        if self.show {
+            println!("input {}\n{}", self.inputs, call.inputs_in_full());
         }
     }
 
@@ -235,9 +299,7 @@ impl Run {
     /// Tries a call with a large buffer, one that just fits, one that is a byte too short, and
     /// an empty one.
     fn all_rooms(&mut self, call: Call) -> Result<Outcome, Difference> {
-        if self.show {
-            println!("input {}\n{}", self.inputs, call.inputs_in_full());
-        }
+        self.announce(call);
         let needed = match self.room_needed(call) {
             Some(needed) => needed,
             None => self.random.below(100),
@@ -245,7 +307,7 @@ impl Run {
         let large = needed + self.random.between(1, 50);
         let outcome = call.compare(&mut self.library, &mut self.random, large)?;
         self.answers.note(call, outcome.answer);
-        if self.inputs >= lines::LINES.len() as u64 {
+        if self.is_made() {
             self.small_letters.note(call, &outcome);
         }
         for room in [needed, needed.saturating_sub(1), 0] {
@@ -335,6 +397,7 @@ impl Run {
         );
         self.answers.show();
         self.small_letters.show();
+        self.keys.show();
     }
 }
 

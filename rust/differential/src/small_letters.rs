@@ -1,6 +1,7 @@
 //! What a run must have seen of small letters in numerals.
 
 use crate::compare::{Call, Outcome};
+use crate::coverage::{self, Sight};
 use crate::records::{fields, join, Field};
 
 /// The refusal of a record that is not well formed.
@@ -86,7 +87,7 @@ impl SmallLetters {
     }
 
     /// What a run must have seen, and how often it was.
-    fn sights(&self) -> [(&'static str, u64); 5] {
+    fn sights(&self) -> [Sight; 5] {
         [
             ("small prefix read", self.prefixes),
             ("small hexadecimal digit read", self.hexadecimal_digits),
@@ -98,17 +99,12 @@ impl SmallLetters {
 
     /// What was never seen.
     pub fn missing(&self) -> Vec<String> {
-        let sights = self.sights().into_iter();
-        let unseen = sights.filter(|(_, times)| *times == 0);
-        unseen.map(|(sight, _)| sight.to_string()).collect()
+        coverage::unseen(&self.sights())
     }
 
     /// A line with what was seen.
     pub fn show(&self) {
-        let seen = self
-            .sights()
-            .map(|(sight, times)| format!("{sight}: {times}"));
-        println!("{}", seen.join(", "));
+        coverage::show(&self.sights());
     }
 }
 

@@ -1,10 +1,12 @@
 //! A safe wrapper over the C interface of the proved MML command translator.
 //!
-//! [`read`] makes a record of a command's text, [`print`] a command's text of a record,
+//! A [`Keeper`] takes what an operator types, one key at a time, and tells when its line is
+//! ready. [`read`] makes a record of a command's text, [`print`] a command's text of a record,
 //! [`count`] tells how many orders a record has, and [`order`] gives order number `k` as a
-//! record. The calls keep no state, allocate nothing and may run on any number of threads at
-//! once. A call that refuses writes nothing; a call that succeeds writes the bytes that it
-//! answers at the buffer's start and leaves the rest of the buffer as it was.
+//! record. The library keeps no state: a line is held by its keeper alone. The calls allocate
+//! nothing and may run on any number of threads at once. A call that refuses writes nothing; a
+//! call that succeeds writes the bytes that it answers at the buffer's start and leaves the rest
+//! of the buffer as it was.
 //!
 //! ```
 //! let mut record = [0; 128];
@@ -29,7 +31,8 @@
 use core::error::Error;
 use core::fmt;
 
-/// No text is longer: a buffer of this size always suffices for [`print`].
+/// No text is longer, and no line that is kept: a buffer of this size always suffices for
+/// [`print`].
 pub const TEXT_MAX: usize = 1024;
 
 /// No record is longer: a buffer of this size always suffices for [`read`] and [`order`].
@@ -37,6 +40,12 @@ pub const RECORD_MAX: usize = 65_536;
 
 /// The most base letters, and so the most places of a command.
 pub const BASES_MAX: usize = 32;
+
+/// The key that removes the last byte held.
+pub const KEY_BS: u8 = 8;
+
+/// The key that empties the line.
+pub const KEY_CAN: u8 = 24;
 
 /// Makes the refusals of one table: what is said of each, its number, its name, its sentence.
 macro_rules! refusals {
@@ -134,6 +143,9 @@ refusals! {
     18 Record "the record is not well formed";
     /// There is no order `k`. Place: the number of orders.
     19 NoOrder "there is no order with this number";
+    /// The key is not taken: it was to be held, and 1,024 bytes of a line not ready are held; or
+    /// the keeper's count passes 1,024, and then no key is taken. Place: 1,024.
+    20 NoKey "the line is full, or the keeper's count passes 1,024";
     /// The name stands already in its block, all pieces equal byte for byte; in another block it
     /// may stand again. Place: the second name's first token.
     21 NameTwice "the name stands already in its block";
@@ -161,6 +173,7 @@ extern "C" {
     fn mml_order(record: *const u8, record_len: usize, k: u64, out: *mut u8, out_len: usize)
         -> u64;
     fn mml_count(record: *const u8, record_len: usize) -> u64;
+    fn mml_key(keeper: *mut Keeper, key: u8) -> u64;
 }
 
 /// Takes an answer apart: number times 2^32 plus value. Every bit of both counts.
@@ -220,6 +233,78 @@ pub fn count(record: &[u8]) -> Result<u32, Refusal> {
     value_of(answer)
 }
 
+/// A line keeper: takes what an operator types, one key at a time.
+///
+/// [`KEY_BS`] removes the last byte held, and does nothing on an empty line. [`KEY_CAN`] empties
+/// the line. Any other key is held, as it is. A `;` outside string and comment makes the line
+/// ready; the next key starts an empty line. What a string and a comment are, the rules of
+/// [`read`] say, of the bytes held. [`read`] may refuse a ready line, but not for its end: never
+/// with [`Refusal::NotClosed`], [`Refusal::NoEnd`] or [`Refusal::AfterEnd`].
+///
+/// ```
+/// let mut keeper = mml::Keeper::new();
+/// for key in *b"SET-ATT:LIN=8" {
+///     assert!(!keeper.key(key)?);
+/// }
+/// keeper.key(mml::KEY_BS)?;
+/// assert_eq!(keeper.line(), b"SET-ATT:LIN=");
+/// assert!(!keeper.key(b'7')?);
+/// assert!(keeper.key(b';')?);
+///
+/// let mut record = [0; 128];
+/// let length = mml::read(keeper.line(), b"D", &mut record)?;
+/// let mut text = [0; mml::TEXT_MAX];
+/// let length = mml::print(&record[..length], &mut text)?;
+/// assert_eq!(&text[..length], b"SET-ATT:LIN=7;");
+///
+/// assert!(!keeper.key(b'A')?);
+/// assert_eq!(keeper.line(), b"A");
+/// # Ok::<(), mml::Refusal>(())
+/// ```
+///
+/// Whether a line is ready depends on the bytes held alone: the last of them is a `;` outside
+/// string and comment, and the first such one. So a keeper that the program filled by itself is as
+/// good as one that keys filled.
+#[derive(Clone, Debug)]
+#[repr(C)]
+pub struct Keeper {
+    /// The line, and behind it bytes of no account: a key changes none of them but the one that
+    /// it is held in.
+    pub bytes: [u8; TEXT_MAX],
+    /// How many of the bytes are the line.
+    pub count: u32,
+}
+
+impl Keeper {
+    /// A keeper that holds nothing.
+    pub const fn new() -> Keeper {
+        Keeper {
+            bytes: [0; TEXT_MAX],
+            count: 0,
+        }
+    }
+
+    /// The line that is held. Where the count passes 1,024 these are all the bytes.
+    pub fn line(&self) -> &[u8] {
+        let held = self.bytes.get(..self.count as usize);
+        held.unwrap_or(&self.bytes)
+    }
+
+    /// Takes one key to the line. Gives whether the line is ready then. Refuses with
+    /// [`Refusal::NoKey`], and the keeper stays as it was.
+    pub fn key(&mut self, key: u8) -> Result<bool, Refusal> {
+        // SAFETY: the pointer is that of a keeper, laid out as in C, and only that is written.
+        let answer = unsafe { mml_key(self, key) };
+        value_of(answer).map(|ready| ready != 0)
+    }
+}
+
+impl Default for Keeper {
+    fn default() -> Keeper {
+        Keeper::new()
+    }
+}
+
 #[cfg(test)]
 mod tests {
     use super::{value_of, Refusal};
@@ -230,12 +315,13 @@ mod tests {
         assert_eq!(value_of(0xFFFF_FFFF), Ok(u32::MAX));
         assert_eq!(value_of((14 << 32) + 5), Err(Refusal::Group(5)));
         assert_eq!(value_of((19 << 32) + 3), Err(Refusal::NoOrder(3)));
+        assert_eq!(value_of((20 << 32) + 1024), Err(Refusal::NoKey(1024)));
         assert_eq!(value_of((21 << 32) + 8), Err(Refusal::NameTwice(8)));
     }
 
     #[test]
     fn high_bits_of_the_number_are_not_cut() {
-        for number in [20, 256, 256 + 14, 1 << 16, 1 << 31, u32::MAX] {
+        for number in [22, 256, 256 + 14, 1 << 16, 1 << 31, u32::MAX] {
             let answer = (u64::from(number) << 32) + 5;
             assert_eq!(value_of(answer), Err(Refusal::Unknown(number, 5)));
         }

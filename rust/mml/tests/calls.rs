@@ -1,6 +1,8 @@
-//! The four calls through the wrapper.
+//! The five calls through the wrapper.
 
-use mml::Refusal;
+use std::mem::{align_of, offset_of, size_of};
+
+use mml::{Keeper, Refusal, KEY_BS, KEY_CAN};
 
 const TEXT: &[u8] = b"SET-ATT:LIN=7-1&&-3,LEV=3.5;";
 
@@ -70,7 +72,10 @@ fn every_refusal_of_the_reader() {
     assert_eq!(base_letter, Err(Refusal::BaseLetter(32)));
     let long = " ".repeat(mml::TEXT_MAX + 1);
     assert_eq!(refusal(&long), Refusal::TextTooLong(1024));
-    assert_eq!(refusal("A\u{1};"), Refusal::ByteNotPermitted(1));
+    for key in ["\u{1}", "\u{8}", "\u{18}"] {
+        let text = format!("A{key};");
+        assert_eq!(refusal(&text), Refusal::ByteNotPermitted(1));
+    }
     assert_eq!(refusal("A:\"x;"), Refusal::NotClosed(2));
     assert_eq!(refusal("A/B;"), Refusal::NoToken(1));
     assert_eq!(refusal(""), Refusal::NoEnd(0));
@@ -91,14 +96,14 @@ fn every_refusal_of_the_reader() {
 #[test]
 fn every_number_has_its_refusal() {
     let mut sentences = Vec::new();
-    for number in (1..=19).chain([21]) {
+    for number in 1..=21 {
         let refusal = Refusal::new(number, 5);
         assert!(!matches!(refusal, Refusal::Unknown(..)));
         assert_eq!((refusal.number(), refusal.place()), (number, 5));
         assert!(!sentences.contains(&refusal.sentence()));
         sentences.push(refusal.sentence());
     }
-    for number in [0, 20, 22, 270, u32::MAX] {
+    for number in [0, 22, 270, u32::MAX] {
         let refusal = Refusal::new(number, 5);
         assert_eq!(refusal, Refusal::Unknown(number, 5));
         assert_eq!((refusal.number(), refusal.place()), (number, 5));
@@ -121,4 +126,117 @@ fn empty_slices_may_stand_anywhere() {
     assert_eq!(mml::print(&[], &mut []), Err(Refusal::Record(0)));
     assert_eq!(mml::order(&[], 0, &mut []), Err(Refusal::Record(0)));
     assert_eq!(mml::count(&[]), Err(Refusal::Record(0)));
+}
+
+/// Takes keys to a keeper, all of which must be taken; gives whether the line is ready behind the
+/// last.
+fn takes(keeper: &mut Keeper, keys: &[u8]) -> bool {
+    let mut ready = false;
+    for &key in keys {
+        ready = keeper.key(key).unwrap();
+    }
+    ready
+}
+
+#[test]
+fn a_keeper_is_laid_out_as_in_c() {
+    assert_eq!(size_of::<Keeper>(), 1028);
+    assert_eq!(align_of::<Keeper>(), align_of::<u32>());
+    assert_eq!(offset_of!(Keeper, bytes), 0);
+    assert_eq!(offset_of!(Keeper, count), 1024);
+}
+
+#[test]
+fn a_new_keeper_holds_nothing() {
+    static KEEPER: Keeper = Keeper::new();
+    assert_eq!(KEEPER.line(), b"");
+    assert_eq!(Keeper::default().line(), b"");
+    let mut keeper = KEEPER.clone();
+    assert_eq!(keeper.key(KEY_BS), Ok(false));
+    assert_eq!(keeper.key(KEY_CAN), Ok(false));
+    assert_eq!(keeper.line(), b"");
+}
+
+#[test]
+fn keys_correct_a_line() {
+    let mut keeper = Keeper::new();
+    assert!(!takes(&mut keeper, b"SETT"));
+    assert_eq!(keeper.key(KEY_BS), Ok(false));
+    assert_eq!(keeper.line(), b"SET");
+    assert_eq!(keeper.key(KEY_CAN), Ok(false));
+    assert_eq!(keeper.line(), b"");
+    assert!(takes(&mut keeper, TEXT));
+    assert_eq!(keeper.line(), TEXT);
+    let mut out = vec![0; mml::RECORD_MAX];
+    let length = mml::read(keeper.line(), b"DD", &mut out).unwrap();
+    assert_eq!(out[..length], record());
+}
+
+#[test]
+fn the_key_behind_a_ready_line_starts_an_empty_one() {
+    for (key, line) in [
+        (b'B', &b"B"[..]),
+        (b';', b";"),
+        (KEY_BS, b""),
+        (KEY_CAN, b""),
+    ] {
+        let mut keeper = Keeper::new();
+        assert!(takes(&mut keeper, b"A:1;"));
+        assert_eq!(keeper.key(key), Ok(key == b';'));
+        assert_eq!(keeper.line(), line);
+    }
+}
+
+#[test]
+fn string_and_comment_are_judged_on_the_bytes_held() {
+    for (keys, ready) in [
+        (&b"\"\x08;"[..], true),
+        (b"/x\x08*;", false),
+        (b"/ *;", true),
+        (b"/*/;", false),
+        (b"A:\"x;\"\"y\";", true),
+        (b"$@)/;", true),
+    ] {
+        assert_eq!(takes(&mut Keeper::new(), keys), ready);
+    }
+}
+
+#[test]
+fn a_keeper_that_the_program_filled() {
+    let mut keeper = Keeper::new();
+    keeper.bytes[..4].copy_from_slice(b"A;B;");
+    keeper.count = 4;
+    assert!(!takes(&mut keeper, b"C"));
+    assert_eq!(keeper.line(), b"A;B;C");
+    assert!(!takes(&mut keeper, &[KEY_BS; 2]));
+    assert_eq!(keeper.key(KEY_BS), Ok(true));
+    assert_eq!(keeper.line(), b"A;");
+}
+
+#[test]
+fn a_key_that_is_not_taken_changes_nothing() {
+    let mut keeper = Keeper::new();
+    assert!(!takes(&mut keeper, &[b'A'; mml::TEXT_MAX]));
+    for key in *b"A;\"" {
+        assert_eq!(keeper.key(key), Err(Refusal::NoKey(1024)));
+        assert_eq!(keeper.line(), [b'A'; mml::TEXT_MAX]);
+    }
+    assert_eq!(keeper.key(KEY_BS), Ok(false));
+    assert_eq!(keeper.key(b';'), Ok(true));
+    assert_eq!(keeper.line().len(), mml::TEXT_MAX);
+    assert_eq!(keeper.key(b'B'), Ok(false));
+    assert_eq!(keeper.line(), b"B");
+}
+
+#[test]
+fn a_keeper_whose_count_passes_its_bytes_takes_no_key() {
+    for count in [1025, 1 << 16, u32::MAX] {
+        let mut keeper = Keeper::new();
+        keeper.count = count;
+        for key in [b'A', b';', KEY_BS, KEY_CAN] {
+            assert_eq!(keeper.key(key), Err(Refusal::NoKey(1024)));
+            assert_eq!(keeper.count, count);
+            assert_eq!(keeper.line(), [0; mml::TEXT_MAX]);
+        }
+    }
 }

@@ -1,10 +1,11 @@
 //! An independent model of the MML command translator.
 //!
 //! It does what the proved library does, by the wording of document 01 and of the requests of
-//! document 02 that have landed, in plain Rust without allocation: [`read`] makes a record of a
-//! command, [`print`] a command of a record, [`count`] tells how many orders a record has, and
-//! [`order`] gives one of them. A call that refuses writes nothing; a call that succeeds writes
-//! exactly the bytes it answers.
+//! document 02 that have landed, in plain Rust without allocation: [`key`] takes what is typed to
+//! the line of a [`Keeper`], [`read`] makes a record of a command, [`print`] a command of a record,
+//! [`count`] tells how many orders a record has, and [`order`] gives one of them. A call that
+//! refuses writes nothing; a call that succeeds writes exactly the bytes it answers, and a key that
+//! is held one byte.
 //!
 //! The model is what the library is compared with, in its answers and in its speed.
 
@@ -15,6 +16,7 @@
 mod characters;
 mod fields;
 mod groups;
+mod keeper;
 mod names;
 mod orders;
 mod printer;
@@ -24,6 +26,7 @@ mod tokens;
 mod units;
 mod writer;
 
+pub use keeper::{key, Keeper};
 pub use orders::{count, order};
 pub use printer::print;
 pub use reader::read;
@@ -31,7 +34,7 @@ pub use reader::read;
 /// A refusal: its number and its place, as the documents list them.
 #[derive(Clone, Copy, Debug, PartialEq, Eq)]
 pub struct Refusal {
-    /// 1 to 19, or 21.
+    /// 1 to 21.
     pub number: u8,
     /// A place in the text, an index of the base letters, or a size: by the number.
     pub place: u32,
@@ -51,7 +54,7 @@ impl Refusal {
 mod limits {
     /// Base letters of a command, and so its places.
     pub const PLACES: usize = 32;
-    /// Bytes of a text.
+    /// Bytes of a text, and of a line that is kept.
     pub const TEXT: usize = 1024;
     /// Characters of a word without prefix, and of a keyed numeral after it.
     pub const WORD: usize = 32;

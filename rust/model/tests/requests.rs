@@ -4,6 +4,447 @@ mod common;
 
 use common::*;
 
+/// M-100.
+mod correction_keys {
+    use super::*;
+    use model::{key, Keeper, Refusal};
+
+    const BS: u8 = 8;
+    const CAN: u8 = 24;
+
+    /// The bytes that a keeper carries with it.
+    const ROOM: usize = 1024;
+
+    /// What a key that is not taken is answered.
+    const NOT_TAKEN: Result<bool, Refusal> = Err(Refusal {
+        number: 20,
+        place: ROOM as u32,
+    });
+
+    /// A keeper that holds this line, its other bytes filled.
+    fn holding(line: &[u8], filling: u8) -> Keeper {
+        let mut keeper = Keeper {
+            bytes: [filling; ROOM],
+            count: line.len() as u32,
+        };
+        keeper.bytes[..line.len()].copy_from_slice(line);
+        keeper
+    }
+
+    /// The line that a keeper holds.
+    fn line(keeper: &Keeper) -> &[u8] {
+        &keeper.bytes[..keeper.count as usize]
+    }
+
+    /// Takes keys to a keeper, all of which must be taken; gives whether the line is ready behind
+    /// the last.
+    #[track_caller]
+    fn takes(keeper: &mut Keeper, keys: &[u8]) -> bool {
+        let mut ready = false;
+        for &one in keys {
+            ready = key(keeper, one).unwrap();
+        }
+        ready
+    }
+
+    /// Expects keys, typed to an empty line, to leave this line, not ready.
+    #[track_caller]
+    fn leaves(keys: &str, expected: &str) {
+        let mut keeper = Keeper::new();
+        let ready = takes(&mut keeper, keys.as_bytes());
+        assert_eq!(line(&keeper), expected.as_bytes(), "{keys:?}");
+        assert!(!ready, "{keys:?}");
+    }
+
+    /// Expects keys, typed to an empty line, to leave this line, ready.
+    #[track_caller]
+    fn readies(keys: &str, expected: &str) {
+        let mut keeper = Keeper::new();
+        let ready = takes(&mut keeper, keys.as_bytes());
+        assert_eq!(line(&keeper), expected.as_bytes(), "{keys:?}");
+        assert!(ready, "{keys:?}");
+    }
+
+    /// Expects a key to be taken and every byte of the keeper to be what it was, but for the one
+    /// that is held, if one is, as the last.
+    #[track_caller]
+    fn changes(before: &Keeper, one: u8, count: usize, held: bool, ready: bool) {
+        let mut keeper = before.clone();
+        let mut expected = before.clone();
+        if held {
+            expected.bytes[count - 1] = one;
+        }
+        expected.count = count as u32;
+        assert_eq!(key(&mut keeper, one), Ok(ready), "key {one}");
+        assert!(keeper == expected, "key {one}");
+    }
+
+    /// Expects a key not to be taken and no byte of the keeper to change.
+    #[track_caller]
+    fn is_not_taken(before: &Keeper, one: u8) {
+        let mut keeper = before.clone();
+        assert_eq!(key(&mut keeper, one), NOT_TAKEN, "key {one}");
+        assert!(keeper == *before, "key {one}");
+    }
+
+    /// All keys but BS and CAN.
+    fn held_keys() -> impl Iterator<Item = u8> {
+        (0..=u8::MAX).filter(|one| ![BS, CAN].contains(one))
+    }
+
+    #[test]
+    fn bs_removes_the_last_byte_held() {
+        leaves("AB\x08", "A");
+        leaves("AB\x08\x08", "");
+        leaves("AB\x08C\x08\x08D", "D");
+        changes(&holding(b"AB", b'x'), BS, 1, false, false);
+    }
+
+    #[test]
+    fn bs_does_nothing_on_an_empty_line() {
+        leaves("\x08", "");
+        leaves("A\x08\x08\x08B", "B");
+        changes(&holding(b"", b'x'), BS, 0, false, false);
+    }
+
+    #[test]
+    fn can_empties_the_line() {
+        leaves("\x18", "");
+        leaves("ABC\x18", "");
+        leaves("ABC\x18D", "D");
+        leaves("A:\"x\x18B", "B");
+        changes(&holding(b"ABC", b'x'), CAN, 0, false, false);
+    }
+
+    #[test]
+    fn any_other_key_is_held() {
+        for one in held_keys() {
+            let ready = one == b';';
+            changes(&holding(b"", b'x'), one, 1, true, ready);
+            changes(&holding(b"A:B", b'x'), one, 4, true, ready);
+            changes(&holding(b"A:\"", b'x'), one, 4, true, false);
+            changes(&holding(b"A/*", b'x'), one, 4, true, false);
+        }
+    }
+
+    #[test]
+    fn the_keeper_carries_its_bytes_with_it() {
+        assert_eq!(size_of::<Keeper>(), ROOM + size_of::<u32>());
+        assert_eq!(Keeper::new(), Keeper::default());
+        assert_eq!(line(&Keeper::new()), b"");
+    }
+
+    #[test]
+    fn a_semicolon_outside_string_and_comment_makes_the_line_ready() {
+        for text in [
+            ";",
+            "A;",
+            "SET-ATT:LIN=7-1&&-3,LEV=3.5;",
+            "A:\"x;y\";",
+            "A:\"\";",
+            "A:\"a;\"\"b;\";",
+            "A/*;*/;",
+            "A/*\"*/;",
+            "A:\"/*\";",
+            "/**/;",
+            "/***/;",
+            "/*/*/;",
+            "/**/*;",
+            "*/;",
+            "//*;*/;",
+            "/\"*\";",
+        ] {
+            readies(text, text);
+        }
+        for text in [
+            "A",
+            "A:\";",
+            "A:\"x;\"",
+            "A:\"\"\";",
+            "A/*;",
+            "/*;*",
+            "/*\"*/\";",
+            "\"/*\"/*;",
+            "*/*;",
+        ] {
+            leaves(text, text);
+        }
+    }
+
+    #[test]
+    fn the_next_key_starts_an_empty_line() {
+        readies("A;;", ";");
+        readies("A;B;", "B;");
+        leaves("A;B", "B");
+        leaves("A:\"x\";\"", "\"");
+        let ready = holding(b"A:1;", b'x');
+        for one in held_keys() {
+            changes(&ready, one, 1, true, one == b';');
+        }
+    }
+
+    #[test]
+    fn a_ready_line_is_empty_before_the_key_acts() {
+        leaves("A;\x08", "");
+        leaves("A;\x18", "");
+        leaves("A;\x08B", "B");
+        changes(&holding(b"A:1;", b'x'), BS, 0, false, false);
+        changes(&holding(b"A:1;", b'x'), CAN, 0, false, false);
+    }
+
+    #[test]
+    fn string_and_comment_are_judged_on_the_bytes_held() {
+        readies("\"\x08;", ";");
+        leaves("/x\x08*;", "/*;");
+        readies("/ *;", "/ *;");
+        leaves("/*/;", "/*/;");
+        readies("A:\"x\x08\x08;", "A:;");
+        leaves("A:\"x\"\x08;", "A:\"x;");
+        leaves("A:\"x;\"\x08;", "A:\"x;;");
+        readies("A/*\x08;", "A/;");
+        readies("A/*\x08\x08;", "A;");
+        leaves("A/**/\x08;", "A/**;");
+        readies("A/**/\x08\x08\x08;", "A/;");
+    }
+
+    #[test]
+    fn a_line_that_the_reader_refuses_is_ready_all_the_same() {
+        readies("$@)/;", "$@)/;");
+        refused("$@)/;", "", 5, 0);
+        readies("\0\u{7F};", "\0\u{7F};");
+        refused("\0\u{7F};", "", 3, 0);
+    }
+
+    /// A line is ready by the bytes held alone, whether keys made it or not.
+    #[test]
+    fn a_keeper_that_no_keys_made() {
+        let mut keeper = holding(b"A;B;", b'x');
+        assert!(!takes(&mut keeper, b"C"));
+        assert_eq!(line(&keeper), b"A;B;C");
+        let mut keeper = holding(b"A;B", b'x');
+        assert!(!takes(&mut keeper, b";"));
+        assert_eq!(line(&keeper), b"A;B;");
+        assert!(!takes(&mut keeper, &[BS]));
+        assert!(takes(&mut keeper, &[BS]));
+        assert_eq!(line(&keeper), b"A;");
+        assert!(takes(&mut keeper, b";"));
+        assert_eq!(line(&keeper), b";");
+        changes(&holding(b"A;B", b'x'), CAN, 0, false, false);
+        changes(&holding(b"A\x08\x18;", b'x'), b'B', 1, true, false);
+    }
+
+    #[test]
+    fn a_ready_line_goes_to_the_reader_unchanged() {
+        let text = "SET-ATT:LIN=7-1&&-3,LEV=3.5;";
+        let typed = "SETT\x08-AT\x18SET-ATT:LIN=7-1&&&\x08-3,\"\x08LEV=3..\x085;";
+        let mut keeper = Keeper::new();
+        assert!(takes(&mut keeper, typed.as_bytes()));
+        assert_eq!(line(&keeper), text.as_bytes());
+        assert_eq!(read_bytes(line(&keeper), b"DD"), Ok(record(text, "DD")));
+    }
+
+    #[test]
+    fn the_reader_still_refuses_bs_and_can_with_3() {
+        refused("A\x08;", "", 3, 1);
+        refused("A\x18;", "", 3, 1);
+        refused("A:\"\x08\";", "", 3, 3);
+        refused("A/*\x18*/;", "", 3, 3);
+        let mut keeper = Keeper::new();
+        assert!(takes(&mut keeper, b"A:\"\x08\x18A;"));
+        assert_eq!(read_bytes(line(&keeper), b""), Ok(record("A;", "")));
+    }
+
+    #[test]
+    fn a_key_to_be_held_by_a_full_line_is_not_taken() {
+        let mut keeper = holding(&[b'A'; ROOM - 1], b'x');
+        changes(&keeper, b'B', ROOM, true, false);
+        changes(&keeper, b';', ROOM, true, true);
+        assert!(!takes(&mut keeper, b"A"));
+        for one in held_keys() {
+            is_not_taken(&keeper, one);
+        }
+        is_not_taken(&holding(&[b'"'; ROOM], b'x'), b';');
+    }
+
+    #[test]
+    fn bs_and_can_are_taken_on_a_full_line() {
+        let full = holding(&[b'A'; ROOM], b'x');
+        changes(&full, BS, ROOM - 1, false, false);
+        changes(&full, CAN, 0, false, false);
+        let mut keeper = full;
+        takes(&mut keeper, &[BS]);
+        assert!(takes(&mut keeper, b";"));
+        assert_eq!(line(&keeper), [&[b'A'; ROOM - 1][..], b";"].concat());
+    }
+
+    #[test]
+    fn a_full_line_that_is_ready_takes_every_key() {
+        let full = holding(&[&[b'A'; ROOM - 1][..], b";"].concat(), b'x');
+        for one in held_keys() {
+            changes(&full, one, 1, true, one == b';');
+        }
+        changes(&full, BS, 0, false, false);
+        changes(&full, CAN, 0, false, false);
+    }
+
+    #[test]
+    fn a_full_line_that_only_ends_with_a_semicolon_takes_none() {
+        for first in [b';', b'"'] {
+            let mut full = holding(&[b'A'; ROOM], b'x');
+            full.bytes[0] = first;
+            full.bytes[ROOM - 1] = b';';
+            is_not_taken(&full, b'A');
+            is_not_taken(&full, b';');
+            changes(&full, BS, ROOM - 1, false, false);
+        }
+    }
+
+    #[test]
+    fn a_keeper_whose_count_passes_its_bytes_takes_no_key() {
+        for count in [ROOM as u32 + 1, 1 << 16, 1 << 31, u32::MAX] {
+            for filling in [b'A', b';'] {
+                let mut keeper = holding(b";", filling);
+                keeper.count = count;
+                for one in 0..=u8::MAX {
+                    is_not_taken(&keeper, one);
+                }
+            }
+        }
+    }
+
+    /// A line as a plain list of bytes that takes keys by the request's sentences.
+    #[derive(Clone, Default)]
+    struct List {
+        held: Vec<u8>,
+        ready: bool,
+    }
+
+    impl List {
+        fn key(&mut self, one: u8) -> Result<bool, Refusal> {
+            let is_removed = one == BS || one == CAN;
+            if !self.ready && self.held.len() == ROOM && !is_removed {
+                return NOT_TAKEN;
+            }
+            if self.ready || one == CAN {
+                self.held.clear();
+            }
+            if one == BS {
+                self.held.pop();
+            }
+            self.ready = one == b';' && is_outside(&self.held);
+            if !is_removed {
+                self.held.push(one);
+            }
+            Ok(self.ready)
+        }
+    }
+
+    /// What stands open behind some bytes.
+    #[derive(Clone, Copy)]
+    enum Open {
+        Nothing,
+        /// Nothing yet: a `*` opens a comment.
+        Slash,
+        String,
+        Comment,
+        /// A comment still: a `/` closes it.
+        Star,
+    }
+
+    /// Whether what comes behind these bytes is outside string and comment.
+    fn is_outside(bytes: &[u8]) -> bool {
+        let mut open = Open::Nothing;
+        for byte in bytes {
+            open = match (open, byte) {
+                (Open::String, b'"') | (Open::Star, b'/') => Open::Nothing,
+                (Open::String, _) => Open::String,
+                (Open::Comment | Open::Star, b'*') => Open::Star,
+                (Open::Comment | Open::Star, _) | (Open::Slash, b'*') => Open::Comment,
+                (Open::Nothing | Open::Slash, b'"') => Open::String,
+                (Open::Nothing | Open::Slash, b'/') => Open::Slash,
+                (Open::Nothing | Open::Slash, _) => Open::Nothing,
+            };
+        }
+        matches!(open, Open::Nothing | Open::Slash)
+    }
+
+    /// Takes a key to a keeper and to the list that it held alike; they must answer and hold alike
+    /// then, and no byte of the keeper may change but the one that is held. The reader must find
+    /// no fault with the end of a line that is ready.
+    #[track_caller]
+    fn alike(keeper: &mut Keeper, list: &mut List, one: u8) {
+        let before = list.held.clone();
+        let mut bytes = keeper.bytes;
+        let answer = list.key(one);
+        bytes[..list.held.len()].copy_from_slice(&list.held);
+        let shown = before.escape_ascii();
+        assert_eq!(key(keeper, one), answer, "{shown}, key {one}");
+        assert_eq!(line(keeper), list.held, "{shown}, key {one}");
+        assert!(keeper.bytes == bytes, "{shown}, key {one}");
+        if answer == Ok(true) {
+            let read = model::read(line(keeper), b"", &mut []).unwrap_err();
+            assert!(![4, 6, 7].contains(&read.number), "{shown}, key {one}");
+        }
+    }
+
+    /// Tries all runs of so many keys behind those that the keeper and the list have taken.
+    fn every_run(keeper: &Keeper, list: &List, keys: &[u8], length: usize) {
+        if length == 0 {
+            return;
+        }
+        for &one in keys {
+            let (mut keeper, mut list) = (keeper.clone(), list.clone());
+            alike(&mut keeper, &mut list, one);
+            every_run(&keeper, &list, keys, length - 1);
+        }
+    }
+
+    #[test]
+    fn for_every_short_run_it_does_what_a_plain_list_does() {
+        every_run(&holding(b"", b';'), &List::default(), b"A;\"/*\x08\x18", 6);
+        every_run(&holding(b"", b'"'), &List::default(), b"/*;", 9);
+    }
+
+    #[test]
+    fn for_every_short_run_at_the_limit_too() {
+        for first in [b'A', b'"'] {
+            let mut keeper = holding(b"", b'x');
+            let mut list = List::default();
+            for at in 0..ROOM - 2 {
+                alike(&mut keeper, &mut list, if at == 0 { first } else { b'A' });
+            }
+            every_run(&keeper, &list, b"A;\"/\x08\x18", 5);
+        }
+    }
+
+    /// Keys by a fixed rule that looks like none, of these.
+    fn scattered(keys: &[u8], length: usize) -> impl Iterator<Item = u8> + '_ {
+        let mut state = 1_u32;
+        (0..length).map(move |_| {
+            state = state.wrapping_mul(1_664_525).wrapping_add(1_013_904_223);
+            keys[(state >> 16) as usize % keys.len()]
+        })
+    }
+
+    #[test]
+    fn for_long_runs_it_does_what_a_plain_list_does() {
+        let all: Vec<u8> = (0..=u8::MAX).collect();
+        for keys in [
+            &b"AB;\"\"/*\x08"[..],
+            b"AAAAAAAAAA\x08",
+            b"\"AAAAAAA;;;A/*\x08",
+            b"/*AAAAAA;;;A*\"\x08",
+            &all,
+        ] {
+            let mut keeper = holding(b"", b'x');
+            let mut list = List::default();
+            for one in scattered(keys, 4 * ROOM) {
+                alike(&mut keeper, &mut list, one);
+            }
+        }
+    }
+}
+
 /// M-102.
 mod the_same_name_twice {
     use super::*;

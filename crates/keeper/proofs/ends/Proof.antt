@@ -1,0 +1,20 @@
+-- `keeper::ends`: a `;` by the spot, any other byte by itself.
+use borrow.Author.Needs.{needs}
+use Rattle.keeper.proofs.SpotLaws.{here-semi, here-other}
+use Rattle.keeper.proofs.ends.Statement.{statement}
+use Rattle.keeper.proofs.ends.Tie as tie
+use Rattle.keeper.proofs.ends.Reads as reads
+use Rattle.keeper.proofs.ends.Lts as lts
+use Rattle.keeper.proofs.is_outside.Reads as is-outside-reads
+
+is-outside-requires : tie.Need-is-outside-requires
+is-outside-requires c κs = search needs
+
+returns : tie.Need-returns
+returns c = search (needs, here-semi)
+
+returns-2 : tie.Need-returns-2
+returns-2 c = search (needs, here-other)
+
+pub ends-spec : {M : Type 1} → statement M
+ends-spec = tie.close (tie.spec is-outside-requires returns returns-2)

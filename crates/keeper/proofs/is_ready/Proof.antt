@@ -1,0 +1,31 @@
+-- `keeper::is_ready`: no bytes, a last byte that is a `;`, another last byte.
+use borrow.Author.Needs.{needs}
+use Rattle.keeper.proofs.SpotLaws.{none-held, last-semi, last-other}
+use Rattle.keeper.proofs.is_ready.Statement.{statement}
+use Rattle.keeper.proofs.is_ready.Tie as tie
+use Rattle.keeper.proofs.is_ready.Reads as reads
+use Rattle.keeper.proofs.is_ready.Lts as lts
+use Rattle.keeper.proofs.ends_first.Reads as ends-first-reads
+
+returns : tie.Need-returns
+returns c = search (needs, none-held)
+
+sub-last : tie.Need-sub-last
+sub-last c = search needs
+
+shared-slice-read-if2 : tie.Need-shared-slice-read-if2
+shared-slice-read-if2 c = search needs
+
+ends-first-requires : tie.Need-ends-first-requires
+ends-first-requires c κs = search needs
+
+returns-2 : tie.Need-returns-2
+returns-2 c = search (needs, last-semi)
+
+returns-3 : tie.Need-returns-3
+returns-3 c = search (needs, last-other)
+
+pub is-ready-spec : {M : Type 1} → statement M
+is-ready-spec =
+    tie.close
+    (tie.spec returns sub-last shared-slice-read-if2 ends-first-requires returns-2 returns-3)

@@ -1,0 +1,23 @@
+-- `keeper::taken`: the keeper is handed on, and the flag is that of what `is_ready` answers.
+use borrow.Author.Needs.{needs}
+use Rattle.rules.specs.declared.Answer.the-variants.{Done}
+use Rattle.rules.specs.Keeping.{flag}
+use mathlib.Core.Path.{ap, _∙_}
+use Rattle.keeper.proofs.taken.Statement.{statement}
+use Rattle.keeper.proofs.taken.Tie as tie
+use Rattle.keeper.proofs.taken.Reads as reads
+use Rattle.keeper.proofs.taken.Lts as lts
+use Rattle.keeper.proofs.flagged.Reads as flagged-reads
+use Rattle.keeper.proofs.is_ready.Reads as is-ready-reads
+
+is-ready-requires : tie.Need-is-ready-requires
+is-ready-requires c κs = search needs
+
+flagged-requires : tie.Need-flagged-requires
+flagged-requires c κs = search needs
+
+returns : tie.Need-returns
+returns c = let e = c .flagged .ensures ∙ ap flag (c .before .is-ready .ensures) in ap (λ n. record { keeper = c .before .before .before .before .before .args .t1; answer = Done n }) e
+
+pub taken-spec : {M : Type 1} → statement M
+taken-spec = tie.close (tie.spec is-ready-requires flagged-requires returns)

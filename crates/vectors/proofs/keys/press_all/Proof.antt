@@ -1,0 +1,48 @@
+-- `vectors::keys::press_all` is safe and ends: the measure is the number of keys that are left.
+-- Assumes nothing.
+use borrow.Author.Needs.{needs}
+use Prim.Native.Nat.{_-_}
+use lib.ListN.{length}
+use Rattle.vectors.proofs.keys.press_all.Statement.{statement}
+use Rattle.vectors.proofs.keys.press_all.Tie as tie
+
+abbrev Inv-loop : tie.InvT-loop
+Inv-loop keys left₀ i₀ left i = Unit {0}
+
+abbrev μ-loop : tie.MeasureT-loop
+μ-loop keys left₀ i₀ left i = length keys - i
+
+loop-holds : tie.Need-loop-holds Inv-loop μ-loop
+loop-holds c = tt
+
+shared-slice-read-press : tie.Need-shared-slice-read-press Inv-loop μ-loop
+shared-slice-read-press c = search needs
+
+press-requires : tie.Need-press-requires Inv-loop μ-loop
+press-requires c κs = tt
+
+add-i : tie.Need-add-i Inv-loop μ-loop
+add-i c = search needs
+
+loop-less : tie.Need-loop-less Inv-loop μ-loop
+loop-less c = search needs
+
+loop-again : tie.Need-loop-again Inv-loop μ-loop
+loop-again c = tt
+
+returns : tie.Need-returns Inv-loop μ-loop
+returns c = tt
+
+pub press-all-spec : {M : Type 1} → statement M
+press-all-spec =
+    tie.close
+    (tie.spec
+    Inv-loop
+    μ-loop
+    loop-holds
+    shared-slice-read-press
+    press-requires
+    add-i
+    loop-less
+    loop-again
+    returns)
