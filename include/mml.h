@@ -43,8 +43,8 @@
  * BS (8) removes the last byte held, and does nothing on an empty line. CAN (24) empties the
  * line. Any other key is held, as it is. A semicolon outside string and comment makes the line
  * ready; the next key starts an empty line. What a string and a comment are, mml_read's own
- * rules say, of the bytes held. mml_read never refuses a ready line with 4, 6 or 7; it may
- * refuse it with any other of its numbers, and BS and CAN in a text with 3.
+ * rules say, of the bytes held. mml_read never refuses a ready line with 4, 6 or 7, but it may
+ * refuse it with other numbers. It refuses BS and CAN in a text with 3.
  *
  * Whether a line is ready depends on the bytes held alone: their last byte is a semicolon
  * outside string and comment, and the first such one. So a keeper that the program filled by

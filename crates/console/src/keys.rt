@@ -23,7 +23,7 @@ pub fn serve(manner: Manner, columns: u64, bases: &[u8], block: &mut [u8; BLOCK]
         match typing::next_key(manner, block, input) {
             Key::End => {
                 let line = typing::line(&keeper.bytes, keeper.count);
-                return replies::worse(worst, end(manner, bases, line, last));
+                return end(worst, serve_left(manner, bases, line, last));
             }
             Key::Failed => {
                 return replies::unread();
@@ -108,8 +108,16 @@ fn ask(manner: Manner, columns: u64, line: &[u8], outcome: Outcome) -> Outcome {
     Outcome::Failed
 }
 
+// What came of all keys and lines, and of what was left at the end.
+fn end(worst: Outcome, left: Outcome) -> Outcome {
+    if replies::is_failure(left) {
+        return replies::unwritten();
+    }
+    replies::worse(worst, left)
+}
+
 // What is left when the keys end: a line that is neither ready nor blank is answered as it is.
-fn end(manner: Manner, bases: &[u8], line: &[u8], last: Answer) -> Outcome {
+fn serve_left(manner: Manner, bases: &[u8], line: &[u8], last: Answer) -> Outcome {
     if typing::end_row(manner) {
         if is_ready(last) || typing::is_blank(line) {
             return Outcome::Served;

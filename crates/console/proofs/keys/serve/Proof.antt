@@ -40,11 +40,11 @@ enum-told c = search needs
 line-requires : tie.Need-line-requires Inv-loop μ-loop
 line-requires c κs = tt
 
+serve-left-requires : tie.Need-serve-left-requires Inv-loop μ-loop
+serve-left-requires c κs = tt
+
 end-requires : tie.Need-end-requires Inv-loop μ-loop
 end-requires c κs = tt
-
-worse-requires : tie.Need-worse-requires Inv-loop μ-loop
-worse-requires c κs = tt
 
 returns-2 : tie.Need-returns-2 Inv-loop μ-loop
 returns-2 c = tt
@@ -70,8 +70,8 @@ line-requires-2 c κs = tt
 tell-requires : tie.Need-tell-requires Inv-loop μ-loop
 tell-requires c κs = tt
 
-worse-requires-2 : tie.Need-worse-requires-2 Inv-loop μ-loop
-worse-requires-2 c κs = tt
+worse-requires : tie.Need-worse-requires Inv-loop μ-loop
+worse-requires c κs = tt
 
 sub-turns : tie.Need-sub-turns Inv-loop μ-loop
 sub-turns c = search needs
@@ -101,8 +101,8 @@ serve-spec =
     next-key-requires
     enum-told
     line-requires
+    serve-left-requires
     end-requires
-    worse-requires
     returns-2
     enum-told-2
     unread-requires
@@ -111,7 +111,7 @@ serve-spec =
     key-requires
     line-requires-2
     tell-requires
-    worse-requires-2
+    worse-requires
     sub-turns
     loop-less
     loop-again
