@@ -1,39 +1,42 @@
 // The verb `keys`: each key goes to the library's line keeper, and a line that is ready is answered as by `check`.
-use lines::BLOCK;
-use replies::Outcome;
+use console_lines::BLOCK;
+use console_replies::Outcome;
+use console_typing::Key;
+use console_words::Manner;
+use console_words::Verb;
 use rules::Answer;
-use typing::Key;
-use words::Manner;
-use words::Verb;
 
 // The value of the answer to a key that leaves the line not ready.
 const NOT_READY: u32 = 0;
 
 // Takes one key after the other, and answers the worst that came of a key or a line. No input has as many keys as there are turns.
 pub fn serve(manner: Manner, columns: u64, bases: &[u8], block: &mut [u8; BLOCK]) -> Outcome {
-    let mut input = lines::start();
-    let mut keeper = typing::empty();
+    let mut input = console_lines::start();
+    let mut keeper = console_typing::empty();
     let mut last = Answer::Done(NOT_READY);
     let mut worst = begin(manner, columns);
     let mut turns = u64::MAX;
     while 0 < turns {
-        if replies::is_failure(worst) {
-            return replies::unwritten();
+        if console_replies::is_failure(worst) {
+            return console_replies::unwritten();
         }
-        match typing::next_key(manner, block, input) {
+        match console_typing::next_key(manner, block, input) {
             Key::End => {
-                let line = typing::line(&keeper.bytes, keeper.count);
+                let line = console_typing::line(&keeper.bytes, keeper.count);
                 return end(worst, serve_left(manner, bases, line, last));
             }
             Key::Failed => {
-                return replies::unread();
+                return console_replies::unread();
             }
             Key::Is { key, rest } => {
                 let pressed = mml::key(keeper, key);
                 let answer = pressed.answer;
                 let after = pressed.keeper;
-                let line = typing::line(&after.bytes, after.count);
-                worst = replies::worse(worst, tell(manner, columns, bases, line, last, answer));
+                let line = console_typing::line(&after.bytes, after.count);
+                worst = console_replies::worse(
+                    worst,
+                    tell(manner, columns, bases, line, last, answer),
+                );
                 keeper = after;
                 last = answer;
                 input = rest;
@@ -46,7 +49,7 @@ pub fn serve(manner: Manner, columns: u64, bases: &[u8], block: &mut [u8; BLOCK]
 
 // Asks for the first line.
 fn begin(manner: Manner, columns: u64) -> Outcome {
-    replies::served(typing::show(manner, columns, b""))
+    console_replies::served(console_typing::show(manner, columns, b""))
 }
 
 // Tells what became of a key: the line so far, the answer to a line that is ready, or the key's refusal. Of keys that are refused one
@@ -62,13 +65,13 @@ fn tell(
     match answer {
         Answer::Done(value) => {
             if value == NOT_READY {
-                return replies::served(typing::show(manner, columns, line));
+                return console_replies::served(console_typing::show(manner, columns, line));
             }
             serve_ready(manner, columns, bases, line)
         }
         Answer::Refused(number, place) => {
             if is_refused(last) {
-                return replies::refused(typing::ring(manner));
+                return console_replies::refused(console_typing::ring(manner));
             }
             refuse(manner, columns, bases, line, number, place)
         }
@@ -77,7 +80,7 @@ fn tell(
 
 // Answers a line that is ready, below its row, and asks for the next.
 fn serve_ready(manner: Manner, columns: u64, bases: &[u8], line: &[u8]) -> Outcome {
-    if typing::show(manner, columns, line) && typing::end_row(manner) {
+    if console_typing::show(manner, columns, line) && console_typing::end_row(manner) {
         let outcome = crate::verbs::serve(Verb::Check, bases, line, line.len());
         return ask(manner, columns, b"", outcome);
     }
@@ -93,8 +96,8 @@ fn refuse(
     number: u8,
     place: u32,
 ) -> Outcome {
-    if typing::ring(manner) && typing::end_row(manner) {
-        let outcome = replies::refuse(true, bases, line, number, place);
+    if console_typing::ring(manner) && console_typing::end_row(manner) {
+        let outcome = console_replies::refuse(true, bases, line, number, place);
         return ask(manner, columns, line, outcome);
     }
     Outcome::Failed
@@ -102,7 +105,7 @@ fn refuse(
 
 // Shows a line to type on, below an answer that had this outcome.
 fn ask(manner: Manner, columns: u64, line: &[u8], outcome: Outcome) -> Outcome {
-    if typing::show(manner, columns, line) {
+    if console_typing::show(manner, columns, line) {
         return outcome;
     }
     Outcome::Failed
@@ -110,16 +113,16 @@ fn ask(manner: Manner, columns: u64, line: &[u8], outcome: Outcome) -> Outcome {
 
 // What came of all keys and lines, and of what was left at the end.
 fn end(worst: Outcome, left: Outcome) -> Outcome {
-    if replies::is_failure(left) {
-        return replies::unwritten();
+    if console_replies::is_failure(left) {
+        return console_replies::unwritten();
     }
-    replies::worse(worst, left)
+    console_replies::worse(worst, left)
 }
 
 // What is left when the keys end: a line that is neither ready nor blank is answered as it is.
 fn serve_left(manner: Manner, bases: &[u8], line: &[u8], last: Answer) -> Outcome {
-    if typing::end_row(manner) {
-        if is_ready(last) || typing::is_blank(line) {
+    if console_typing::end_row(manner) {
+        if is_ready(last) || console_typing::is_blank(line) {
             return Outcome::Served;
         }
         return crate::verbs::serve(Verb::Check, bases, line, line.len());

@@ -1,7 +1,7 @@
 // The program behind `./mml`. Each line of standard input is a command or, for some verbs, a record
 // in hexadecimal; module `verbs` says what is done with it. Of `keys` each byte is a key; module
 // `keys` makes lines of them. It is started with four words that the script has judged, MANNER VERB
-// K BASES; crate `words` takes them:
+// K BASES; crate `console_words` takes them:
 //
 //     MANNER  alone  nothing is told at the end
 //             told   at the end one digit goes to descriptor 3, where the script reads it
@@ -17,13 +17,13 @@
 mod keys;
 mod verbs;
 
-use lines::BLOCK;
-use lines::Got;
-use lines::Input;
-use replies::Outcome;
-use words::Asked;
-use words::Manner;
-use words::Verb;
+use console_lines::BLOCK;
+use console_lines::Got;
+use console_lines::Input;
+use console_replies::Outcome;
+use console_words::Asked;
+use console_words::Manner;
+use console_words::Verb;
 
 // The longest command has 1,024 bytes. Of a longer line one more is kept, and the library refuses.
 const COMMAND_LINE: usize = 1025;
@@ -34,25 +34,34 @@ const BASES: usize = 33;
 
 // Serves what the words ask, and tells what came of it.
 fn main() {
-    let manner = words::how();
-    match words::what(manner) {
-        Asked::Commands(verb) => words::tell(manner, replies::digit(serve_commands(manner, verb))),
-        Asked::Records(verb) => words::tell(manner, replies::digit(serve_records(manner, verb))),
-        Asked::Keys(columns) => words::tell(manner, replies::digit(serve_keys(manner, columns))),
-        Asked::Wrong => words::tell(manner, b'2'),
+    let manner = console_words::how();
+    match console_words::what(manner) {
+        Asked::Commands(verb) => console_words::tell(
+            manner,
+            console_replies::digit(serve_commands(manner, verb)),
+        ),
+        Asked::Records(verb) => console_words::tell(
+            manner,
+            console_replies::digit(serve_records(manner, verb)),
+        ),
+        Asked::Keys(columns) => console_words::tell(
+            manner,
+            console_replies::digit(serve_keys(manner, columns)),
+        ),
+        Asked::Wrong => console_words::tell(manner, b'2'),
     }
 }
 
 // Serves each line as a command.
 fn serve_commands(manner: Manner, verb: Verb) -> Outcome {
     let mut letters = [0u8; BASES];
-    let n = words::bases(&mut letters);
+    let n = console_words::bases(&mut letters);
     let mut block = io::buffer();
     let mut line = [0u8; COMMAND_LINE];
     serve(
         manner,
         verb,
-        figures::front(&letters, n),
+        console_figures::front(&letters, n),
         &mut block,
         &mut line,
     )
@@ -61,9 +70,14 @@ fn serve_commands(manner: Manner, verb: Verb) -> Outcome {
 // Serves each byte as a key.
 fn serve_keys(manner: Manner, columns: u64) -> Outcome {
     let mut letters = [0u8; BASES];
-    let n = words::bases(&mut letters);
+    let n = console_words::bases(&mut letters);
     let mut block = io::buffer();
-    keys::serve(manner, columns, figures::front(&letters, n), &mut block)
+    keys::serve(
+        manner,
+        columns,
+        console_figures::front(&letters, n),
+        &mut block,
+    )
 }
 
 // Serves each line as a record.
@@ -82,7 +96,7 @@ fn serve(
     block: &mut [u8; BLOCK],
     line: &mut [u8],
 ) -> Outcome {
-    let mut input = lines::start();
+    let mut input = console_lines::start();
     let mut worst = Outcome::Served;
     let mut turns = u64::MAX;
     while 0 < turns {
@@ -91,14 +105,14 @@ fn serve(
                 return end(manner, worst);
             }
             Got::Failed => {
-                return replies::unread();
+                return console_replies::unread();
             }
             Got::Line { kept, long, rest } => {
-                let outcome = verbs::serve(verb, bases, figures::front(line, kept), long);
-                if replies::is_failure(outcome) {
-                    return replies::unwritten();
+                let outcome = verbs::serve(verb, bases, console_figures::front(line, kept), long);
+                if console_replies::is_failure(outcome) {
+                    return console_replies::unwritten();
                 }
-                worst = replies::worse(worst, outcome);
+                worst = console_replies::worse(worst, outcome);
                 input = rest;
             }
         }
@@ -109,15 +123,15 @@ fn serve(
 
 // Asks for the next line, and reads it.
 fn next_line(manner: Manner, block: &mut [u8; BLOCK], input: Input, line: &mut [u8]) -> Got {
-    if words::prompt(manner, b"mml> ") {
-        return lines::next_line(block, input, line);
+    if console_words::prompt(manner, b"mml> ") {
+        return console_lines::next_line(block, input, line);
     }
     Got::Failed
 }
 
 // What came of all lines, at the end of the input. What is typed next stands in a new line.
 fn end(manner: Manner, worst: Outcome) -> Outcome {
-    if words::prompt(manner, b"\n") {
+    if console_words::prompt(manner, b"\n") {
         return worst;
     }
     Outcome::Failed

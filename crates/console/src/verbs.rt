@@ -1,9 +1,9 @@
 // What each verb does with one line.
-use figures::Decoded;
-use figures::front;
-use replies::Outcome;
+use console_figures::Decoded;
+use console_figures::front;
+use console_replies::Outcome;
+use console_words::Verb;
 use rules::Answer;
-use words::Verb;
 
 // The longest command that the printer writes.
 const LONGEST_TEXT: usize = 1024;
@@ -24,7 +24,7 @@ fn serve_command(verb: Verb, bases: &[u8], line: &[u8]) -> Outcome {
     let mut record = io::large_buffer();
     match mml::read(line, bases, &mut record) {
         Answer::Done(n) => serve_accepted(verb, bases, line, front(&record, n as usize)),
-        Answer::Refused(number, place) => replies::refuse(
+        Answer::Refused(number, place) => console_replies::refuse(
             is_check(verb),
             bases,
             line,
@@ -48,7 +48,7 @@ fn serve_accepted(verb: Verb, bases: &[u8], line: &[u8], record: &[u8]) -> Outco
         Verb::Check => write_accepted(bases, line, record),
         Verb::Orders => write_orders(record),
         Verb::Order(k) => write_order(bases, line, record, k),
-        _ => replies::write_record(record),
+        _ => console_replies::write_record(record),
     }
 }
 
@@ -56,8 +56,11 @@ fn serve_accepted(verb: Verb, bases: &[u8], line: &[u8], record: &[u8]) -> Outco
 fn write_accepted(bases: &[u8], line: &[u8], record: &[u8]) -> Outcome {
     let mut text = [0u8; LONGEST_TEXT];
     match mml::print(record, &mut text) {
-        Answer::Done(n) => replies::write_accepted(order_count(record), front(&text, n as usize)),
-        Answer::Refused(number, place) => replies::refuse(true, bases, line, number, place),
+        Answer::Done(n) => console_replies::write_accepted(
+            order_count(record),
+            front(&text, n as usize),
+        ),
+        Answer::Refused(number, place) => console_replies::refuse(true, bases, line, number, place),
     }
 }
 
@@ -98,8 +101,8 @@ fn number_orders(record: &[u8], count: u64, order: &mut [u8], text: &mut [u8]) -
 // Writes order k behind its number.
 fn write_numbered(record: &[u8], k: u64, order: &mut [u8], text: &mut [u8]) -> Outcome {
     match order_text(record, k, order, text) {
-        Answer::Done(n) => replies::write_order(k, front(text, n as usize)),
-        Answer::Refused(number, place) => replies::refuse_order(number, place),
+        Answer::Done(n) => console_replies::write_order(k, front(text, n as usize)),
+        Answer::Refused(number, place) => console_replies::refuse_order(number, place),
     }
 }
 
@@ -108,8 +111,14 @@ fn write_order(bases: &[u8], line: &[u8], record: &[u8], k: u64) -> Outcome {
     let mut order = io::large_buffer();
     let mut text = [0u8; LONGEST_TEXT];
     match order_text(record, k, &mut order, &mut text) {
-        Answer::Done(n) => replies::write_text(front(&text, n as usize)),
-        Answer::Refused(number, place) => replies::refuse(false, bases, line, number, place),
+        Answer::Done(n) => console_replies::write_text(front(&text, n as usize)),
+        Answer::Refused(number, place) => console_replies::refuse(
+            false,
+            bases,
+            line,
+            number,
+            place,
+        ),
     }
 }
 
@@ -124,12 +133,12 @@ fn order_text(record: &[u8], k: u64, order: &mut [u8], text: &mut [u8]) -> Answe
 // Takes a line as a record in hexadecimal, and does with it what the verb asks.
 fn serve_record(verb: Verb, line: &[u8], long: usize) -> Outcome {
     if line.len() < long {
-        return replies::refuse_length();
+        return console_replies::refuse_length();
     }
     let mut record = io::large_buffer();
-    match figures::decode(line, &mut record) {
+    match console_figures::decode(line, &mut record) {
         Decoded::Bytes(n) => serve_decoded(verb, line, front(&record, n)),
-        Decoded::Wrong(place) => replies::refuse_digits(line, place),
+        Decoded::Wrong(place) => console_replies::refuse_digits(line, place),
     }
 }
 
@@ -145,17 +154,17 @@ fn serve_decoded(verb: Verb, line: &[u8], record: &[u8]) -> Outcome {
 fn write_text(line: &[u8], record: &[u8]) -> Outcome {
     let mut text = [0u8; LONGEST_TEXT];
     match mml::print(record, &mut text) {
-        Answer::Done(n) => replies::write_text(front(&text, n as usize)),
-        Answer::Refused(number, place) => replies::refuse_record(line, number, place),
+        Answer::Done(n) => console_replies::write_text(front(&text, n as usize)),
+        Answer::Refused(number, place) => console_replies::refuse_record(line, number, place),
     }
 }
 
 // Writes the base letters of a record, if it is well formed.
 fn write_bases(line: &[u8], record: &[u8]) -> Outcome {
     let mut letters = [0u8; MOST_PLACES];
-    let n = figures::own_bases(record, &mut letters);
+    let n = console_figures::own_bases(record, &mut letters);
     match mml::count(record) {
-        Answer::Done(_) => replies::write_text(front(&letters, n)),
-        Answer::Refused(number, place) => replies::refuse_record(line, number, place),
+        Answer::Done(_) => console_replies::write_text(front(&letters, n)),
+        Answer::Refused(number, place) => console_replies::refuse_record(line, number, place),
     }
 }

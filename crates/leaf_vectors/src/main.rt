@@ -2,7 +2,7 @@
 ghost use Prim.Native.Nat.{_≤_};
 ghost use lib.ListN.{length};
 use libc::STDOUT_FILENO;
-use tokens::Filled;
+use scan::Filled;
 use units::Word;
 
 // Room for the tokens and the contents of every line below.
@@ -21,11 +21,11 @@ fn say_number(n: u64) {
 // A token: its kind, its place and its content, as ` 10@0=A`.
 fn say_token(t: u64, contents: &[u8]) {
     say(b" ");
-    say_number(table::kind(t) as u64);
+    say_number(token_table::kind(t) as u64);
     say(b"@");
-    say_number(table::place(t) as u64);
-    let start = table::start(t, contents.len());
-    let end = table::end(t, contents.len());
+    say_number(token_table::place(t) as u64);
+    let start = token_table::start(t, contents.len());
+    let end = token_table::end(t, contents.len());
     if start < end {
         if end <= contents.len() {
             say(b"=");
@@ -71,7 +71,7 @@ fn tokens_of(line: &[u8])
     let classes = chars::table();
     let mut toks = [0u64; 128];
     let mut contents = [0u8; 128];
-    match tokens::tokens(line, &classes, &mut toks, &mut contents) {
+    match scan::tokens(line, &classes, &mut toks, &mut contents) {
         Filled::Done { tokens, bytes } => say_tokens(&toks, tokens, &contents),
         Filled::Refused { number, place } => say_refusal(number, place),
     }

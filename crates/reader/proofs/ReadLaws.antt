@@ -18,21 +18,21 @@ use Rattle.rules.specs.Units.{Base}
 use Rattle.rules.proofs.ReadSound.{cut-ok, cut-wf}
 use Rattle.rules.proofs.ResultLaws.{byRes}
 use Rattle.rules.proofs.ScanSound.{scan-ok}
-use Rattle.table.specs.Table.{tokensIn, verdict}
-use Rattle.table.specs.declared.Verdict.{Verdict}
-use Rattle.table.specs.declared.Verdict.the-variants.{Fine as Good, Refused as Bad}
-use Rattle.bases.specs.Bases.{basesIn}
-use Rattle.bases.proofs.BaseLaws.{letters-are}
-use Rattle.parts.specs.Parts.{capped}
-use Rattle.parts.proofs.WordLaws.{cap-small}
-use Rattle.places.proofs.PlaceLaws.{verdict-ok, verdict-bad}
-use Rattle.blocks.specs.Blocks.{commandRead}
-use Rattle.blocks.specs.declared.Checked.{Checked}
-use Rattle.blocks.specs.declared.Checked.the-variants.{Fine as Right, Refused as Wrong}
-use Rattle.recorder.specs.Recorder.{CommandFits, PutCommand}
-use Rattle.tokens.specs.declared.Filled.{Filled}
-use Rattle.tokens.specs.declared.Filled.the-variants.{Done as Filling, Refused as NotFilled}
-use Rattle.tokens.specs.Filled.{Holds, IsFilled}
+use Rattle.token_table.specs.Table.{tokensIn, verdict}
+use Rattle.token_table.specs.declared.Verdict.{Verdict}
+use Rattle.token_table.specs.declared.Verdict.the-variants.{Fine as Good, Refused as Bad}
+use Rattle.read_bases.specs.Bases.{basesIn}
+use Rattle.read_bases.proofs.BaseLaws.{letters-are}
+use Rattle.token_table.specs.Parts.{capped}
+use Rattle.token_table.proofs.WordLaws.{cap-small}
+use Rattle.read_place.proofs.PlaceLaws.{verdict-ok, verdict-bad}
+use Rattle.read_command.specs.Blocks.{commandRead}
+use Rattle.read_command.specs.declared.Checked.{Checked}
+use Rattle.read_command.specs.declared.Checked.the-variants.{Fine as Right, Refused as Wrong}
+use Rattle.command_fields.specs.Recorder.{CommandFits, PutCommand}
+use Rattle.scan.specs.declared.Filled.{Filled}
+use Rattle.scan.specs.declared.Filled.the-variants.{Done as Filling, Refused as NotFilled}
+use Rattle.scan.specs.Filled.{Holds, IsFilled}
 use Rattle.reader.specs.Reader.{TokensOf, commandOf, Records, RecordsText}
 use Rattle.reader.proofs.SizeLaws.{record-size}
 

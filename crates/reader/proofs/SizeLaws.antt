@@ -20,7 +20,7 @@ use Rattle.rules.proofs.CommandBack.{w-most, c-code, c-few, c-blocks, c-places}
 use Rattle.rules.proofs.DecodeEncode.{place-value}
 use Rattle.rules.proofs.Names.{block-places}
 use Rattle.rules.proofs.ValueBack.{ok-length, ok-lead, ok-last, v-lead, v-all, v-few}
-use Rattle.measure.proofs.BytesLaws.{bytes-append}
+use Rattle.value_fields.proofs.BytesLaws.{bytes-append}
 
 -- ---- lists of limited fields
 

@@ -10,8 +10,8 @@ use Rattle.rules.specs.Reading.{readCut}
 use Rattle.rules.specs.Records.{encode}
 use Rattle.rules.specs.Refusals.{Res, ok, _>>=_, mapR}
 use Rattle.rules.specs.Tokens.{Token, semi, scan}
-use Rattle.table.specs.Table.{tokensIn}
-use Rattle.bases.specs.Bases.{basesIn}
+use Rattle.token_table.specs.Table.{tokensIn}
+use Rattle.read_bases.specs.Bases.{basesIn}
 
 -- the tokens of some text
 pub record TokensOf (ts cs : List ℕ) : Type 0 where

@@ -1,13 +1,13 @@
 // The reader: a command's text into its record, or a refusal with its number and place. Nothing is written before every refusal is excluded.
-use bases;
-use blocks;
-use blocks::Checked;
 use chars;
-use recorder;
+use command_fields;
+use read_bases;
+use read_command;
+use read_command::Checked;
 use rules::Answer;
-use table::Verdict;
-use tokens;
-use tokens::Filled;
+use scan;
+use scan::Filled;
+use token_table::Verdict;
 ghost use Prim.Native.Nat.{_≤_};
 ghost use mathlib.Core.Path.{_≡_};
 ghost use lib.ListN.{length, take};
@@ -34,13 +34,13 @@ fn put_record(toks: &[u64], contents: &[u8], bases: &[u8], len: u32, out: &mut [
     requires { ⌜ TokensOf (now toks) (now contents) ⌝ }
     ensures { λ r. ⌜ Records (now (toks .entry)) (now (contents .entry)) (now (bases .entry)) len (now (out .entry)) r (now (out .exit)) ⌝ }
 {
-    match blocks::command(toks, contents, bases, len) {
+    match read_command::command(toks, contents, bases, len) {
         Checked::Refused { no, place } => Answer::Refused(no, place),
         Checked::Fine { bytes } => {
             if out.len() < bytes as usize {
                 return Answer::Refused(NO_ROOM, bytes);
             }
-            Answer::Done(recorder::put_command(out, toks, contents, bases) as u32)
+            Answer::Done(command_fields::put_command(out, toks, contents, bases) as u32)
         }
     }
 }
@@ -72,7 +72,7 @@ fn with_tables(
     requires { ⌜ (now classes ≡ table) × (length (now text) ≤ mostText) × (length (now text) ≤ length (now toks)) × (length (now text) ≤ length (now contents)) ⌝ }
     ensures { λ r. ⌜ RecordsText (now (text .entry)) (now (bases .entry)) (now (out .entry)) r (now (out .exit)) ⌝ }
 {
-    match tokens::tokens(text, classes, toks, contents) {
+    match scan::tokens(text, classes, toks, contents) {
         Filled::Refused { number, place } => Answer::Refused(number, place as u32),
         Filled::Done { tokens, bytes } => put_filled(
             toks,
@@ -136,7 +136,7 @@ fn read_text(text: &[u8], bases: &[u8], out: &mut [u8]) -> Answer
 pub fn read(text: &[u8], bases: &[u8], out: &mut [u8]) -> Answer
     ensures { λ r. ⌜ Reads (now (text .entry)) (now (bases .entry)) (now (out .entry)) r (now (out .exit)) ⌝ }
 {
-    match bases::letters(bases) {
+    match read_bases::letters(bases) {
         Verdict::Refused { no, place } => Answer::Refused(no, place),
         Verdict::Fine => read_text(text, bases, out),
     }

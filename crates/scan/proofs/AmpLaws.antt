@@ -9,7 +9,7 @@ use lib.ListN.{length, getD}
 use borrow.Author.Tests.{ne-eqb}
 use Rattle.rules.specs.Characters.{byte}
 use Rattle.rules.specs.Tokens.{ampamp-, ampamp, amp-, amp, sepCode, oneAmp, twoAmp}
-use Rattle.table.specs.Table.{lexOfKind}
+use Rattle.token_table.specs.Table.{lexOfKind}
 use Rattle.scan.specs.Along.{runAt, Skipped, IsAmp}
 use Rattle.scan.proofs.RunLaws.{run-step, stayed, settle, inside}
 use Rattle.scan.proofs.SkipLaws.{skips-one, skips-two}

@@ -5,3 +5,6 @@ pub mod WordLaws
 pub mod StringLaws
 pub mod AmpLaws
 pub mod GapLaws
+pub mod TokenLaws
+pub mod FillLaws
+pub mod WholeLaws

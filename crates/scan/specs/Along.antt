@@ -8,7 +8,7 @@ use Rattle.rules.specs.Characters.{isEffector}
 use Rattle.rules.specs.Refusals.{Res, ok, bad, unclosed}
 use Rattle.rules.specs.Tokens.{Token, at, State, idle, inWord, oneAmp, comment, inStr, wordToken, strToken, andThen, stay, step, run}
 use Rattle.chars.specs.Classes.{classOf, effectorClass, slashClass}
-use Rattle.table.specs.Table.{lexOfKind, stringKind}
+use Rattle.token_table.specs.Table.{lexOfKind, stringKind}
 use Rattle.scan.specs.declared.CommentEnd.{CommentEnd}
 use Rattle.scan.specs.declared.CommentEnd.the-variants.{At, Nowhere}
 use Rattle.scan.specs.declared.StringEnd.{StringEnd}

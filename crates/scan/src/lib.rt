@@ -1,16 +1,40 @@
-// The stretches of a text that the scanner reads: a gap, a word, a string, a separator that begins with `&`. Each promise says what the rules'
-// automaton does over the stretch.
+// A text into its tokens. The stretches of a text (a gap, a word, a string, a separator that begins with `&`), each with a promise of what the
+// rules' automaton does over it; the cursor, which reads one token after the other (4, 5, and 15 for words and strings); and the whole
+// text (2, 3, then what the cursor finds), as a table of tokens with their contents one behind the other.
+use chars::Off;
 use chars::class;
 ghost use mathlib.Core.Path.{_≡_};
 ghost use Prim.Native.Nat.{ℕ, _+_, _<_, _≤_};
 ghost use lib.ListN.{length, getD};
 ghost use Rattle.chars.specs.Classes.{table};
-ghost use Rattle.scan.specs.Along.{Skipped, IsComment, IsWord, IsString, IsAmp, IsGap};
+ghost use Rattle.scan.specs.Along.{Skipped, IsComment, IsWord, IsString, IsAmp, IsGap, runAt, Begins};
+ghost use mathlib.Core.List.{List, [], _∷_};
+ghost use Rattle.rules.specs.Characters.{byte};
+ghost use Rattle.rules.specs.Tokens.{idle, inWord, run, scan};
+ghost use Rattle.scan.specs.Scanned.{IsScanned, IsSep};
+ghost use Rattle.rules.specs.Refusals.{mostText};
+ghost use Rattle.scan.specs.Filled.{IsFilled};
+
+// So many bytes a text has at most.
+pub const MOST_TEXT: usize = 1024;
+// 2: the text has more.
+const TOO_LONG: u8 = 2;
+// 3: a byte is not permitted.
+const NOT_PERMITTED: u8 = 3;
 
 // 4: a string or a comment is not closed.
 pub const UNCLOSED: u8 = 4;
 // 5: a byte begins no token.
 pub const NO_TOKEN: u8 = 5;
+
+// 15: a word or a string is too long.
+const TOO_MANY: u8 = 15;
+// So many bytes a word has at most,
+const MOST_WORD: usize = 32;
+// a word whose second byte is `'`,
+const MOST_PREFIXED: usize = 34;
+// a string's content.
+const MOST_STRING: usize = 80;
 
 // The byte at a place, and 0 behind the end.
 pub fn byte(text: &[u8], at: usize) -> u8
@@ -142,7 +166,7 @@ pub fn ampersand(text: &[u8], classes: &[u8; 128], from: usize) -> AmpEnd
     let b = byte(text, j);
     if b == b'-' {
         return AmpEnd {
-            kind: table::AMP_DASH,
+            kind: token_table::AMP_DASH,
             end: j + 1,
         };
     }
@@ -150,17 +174,17 @@ pub fn ampersand(text: &[u8], classes: &[u8; 128], from: usize) -> AmpEnd
         let k = skip(text, classes, j + 1);
         if byte(text, k) == b'-' {
             return AmpEnd {
-                kind: table::AMP_AMP_DASH,
+                kind: token_table::AMP_AMP_DASH,
                 end: k + 1,
             };
         }
         return AmpEnd {
-            kind: table::AMP_AMP,
+            kind: token_table::AMP_AMP,
             end: k,
         };
     }
     AmpEnd {
-        kind: table::AMP,
+        kind: token_table::AMP,
         end: j,
     }
 }
@@ -202,4 +226,230 @@ pub fn begin(text: &[u8], classes: &[u8; 128], from: usize) -> Gap
         }
     }
     Gap::End
+}
+
+// A place in the text that no token is in the midst of.
+pub struct Cursor {
+    pub at: usize,
+}
+
+// The next token and the cursor behind it; the end of the text; or a refusal.
+pub enum Scanned {
+    Token {
+        place: usize,
+        len: usize,
+        next: Cursor,
+        kind: u8,
+    },
+    End,
+    Refused {
+        number: u8,
+        place: usize,
+    },
+}
+
+// A word at `place`, whose first byte is `first`; the others stand from `from` on.
+fn word_token(
+    text: &[u8],
+    classes: &[u8; 128],
+    place: usize,
+    first: u8,
+    from: usize,
+    out: &mut [u8],
+) -> Scanned
+    requires { ⌜ (now classes ≡ table) × (place < from) × (from ≤ length (now text)) × (length (now text) < length (now out) + from) ⌝ }
+    ensures { λ r. ⌜ IsScanned (runAt (inWord place (first ∷ [])) (now (text .entry)) from) (now (text .entry)) place (now (out .exit)) r ⌝ }
+{
+    let w = word(text, classes, first, from, out);
+    if w.len <= MOST_WORD {
+        return Scanned::Token {
+            place,
+            len: w.len,
+            next: Cursor { at: w.end },
+            kind: token_table::WORD,
+        };
+    }
+    if w.len <= MOST_PREFIXED {
+        if out[1] == b'\'' {
+            return Scanned::Token {
+                place,
+                len: w.len,
+                next: Cursor { at: w.end },
+                kind: token_table::WORD,
+            };
+        }
+    }
+    Scanned::Refused {
+        number: TOO_MANY,
+        place,
+    }
+}
+
+// A word that begins with the `+` at `place`, or a `++`.
+fn plus_token(text: &[u8], classes: &[u8; 128], place: usize, out: &mut [u8]) -> Scanned
+    requires { ⌜ (now classes ≡ table) × (getD (now text) place 0 ≡ byte "+") × (length (now text) ≤ length (now out) + place) ⌝ }
+    ensures { λ r. ⌜ IsScanned (runAt idle (now (text .entry)) place) (now (text .entry)) place (now (out .exit)) r ⌝ }
+{
+    let j = skip(text, classes, place + 1);
+    if byte(text, j) == b'+' {
+        return Scanned::Token {
+            place,
+            len: 0,
+            next: Cursor { at: j + 1 },
+            kind: token_table::PLUS_PLUS,
+        };
+    }
+    word_token(text, classes, place, b'+', j, out)
+}
+
+// A string whose opening mark stands at `place`.
+fn string_token(text: &[u8], place: usize, out: &mut [u8]) -> Scanned
+    requires { ⌜ (getD (now text) place 0 ≡ byte "\"") × (length (now text) ≤ length (now out) + place) ⌝ }
+    ensures { λ r. ⌜ IsScanned (runAt idle (now (text .entry)) place) (now (text .entry)) place (now (out .exit)) r ⌝ }
+{
+    match string(text, place + 1, out) {
+        StringEnd::Closed { len, end } => {
+            if len <= MOST_STRING {
+                return Scanned::Token {
+                    place,
+                    len,
+                    next: Cursor { at: end },
+                    kind: token_table::STRING,
+                };
+            }
+            Scanned::Refused {
+                number: TOO_MANY,
+                place,
+            }
+        }
+        StringEnd::Open => {
+            let number = UNCLOSED;
+            Scanned::Refused { number, place }
+        }
+    }
+}
+
+// A separator that begins with the `&` at `place`.
+fn amp_token(text: &[u8], classes: &[u8; 128], place: usize) -> Scanned
+    requires { ⌜ (now classes ≡ table) × (getD (now text) place 0 ≡ byte "&") ⌝ }
+    ensures { λ r. ⌜ IsSep (runAt idle (now (text .entry)) place) (now (text .entry)) place r ⌝ }
+{
+    let a = ampersand(text, classes, place + 1);
+    Scanned::Token {
+        place,
+        len: 0,
+        next: Cursor { at: a.end },
+        kind: a.kind,
+    }
+}
+
+// The token that begins at `place` with a byte of class `class`, neither a format effector nor a `/`.
+fn token(text: &[u8], classes: &[u8; 128], place: usize, class: u8, out: &mut [u8]) -> Scanned
+    requires { ⌜ (now classes ≡ table) × Begins (now text) place place class × (length (now text) ≤ length (now out) + place) ⌝ }
+    ensures { λ r. ⌜ IsScanned (runAt idle (now (text .entry)) place) (now (text .entry)) place (now (out .exit)) r ⌝ }
+{
+    if class == chars::WORD {
+        return word_token(text, classes, place, text[place], place + 1, out);
+    }
+    if chars::EFFECTOR < class {
+        if class == chars::MARK {
+            return string_token(text, place, out);
+        }
+        if class == chars::OTHER {
+            return Scanned::Refused {
+                number: NO_TOKEN,
+                place,
+            };
+        }
+        return Scanned::Token {
+            place,
+            len: 0,
+            next: Cursor { at: place + 1 },
+            kind: class,
+        };
+    }
+    if class == chars::AMPERSAND {
+        return amp_token(text, classes, place);
+    }
+    if class == chars::PLUS {
+        return plus_token(text, classes, place, out);
+    }
+    Scanned::Refused {
+        number: NO_TOKEN,
+        place,
+    }
+}
+
+impl Cursor {
+    // The next token from the cursor on, its content at the start of `out`.
+    pub fn next(self, text: &[u8], classes: &[u8; 128], out: &mut [u8]) -> Scanned
+        requires { ⌜ (now classes ≡ table) × (length (now text) ≤ length (now out) + self .at) ⌝ }
+        ensures { λ r. ⌜ IsScanned (runAt idle (now (text .entry)) (self .at)) (now (text .entry)) (self .at) (now (out .exit)) r ⌝ }
+    {
+        match begin(text, classes, self.at) {
+            Gap::Start { at, class } => token(text, classes, at, class, out),
+            Gap::End => Scanned::End,
+            Gap::Refused { number, place } => Scanned::Refused { number, place },
+        }
+    }
+}
+
+// How many tokens the table holds, and how many bytes their contents take; or a refusal.
+pub enum Filled {
+    Done { tokens: usize, bytes: usize },
+    Refused { number: u8, place: usize },
+}
+
+// 4, 5 and 15: the tokens of a text into the table and the contents. Where the text is refused both are left with parts of it.
+fn fill(text: &[u8], classes: &[u8; 128], toks: &mut [u64], contents: &mut [u8]) -> Filled
+    requires { ⌜ (now classes ≡ table) × (length (now text) ≤ mostText) × (length (now text) ≤ length (now toks)) × (length (now text) ≤ length (now contents)) ⌝ }
+    ensures { λ r. ⌜ IsFilled (run idle 0 (now (text .entry))) (now (toks .exit)) (now (contents .exit)) r ⌝ }
+{
+    let mut cursor = Cursor { at: 0 };
+    let mut t: usize = 0;
+    let mut k: usize = 0;
+    loop {
+        match cursor.next(text, classes, &mut contents[k..]) {
+            Scanned::Token {
+                place,
+                len,
+                next,
+                kind,
+            } => {
+                toks[t] = token_table::pack(kind, place, k, len);
+                t += 1;
+                k += len;
+                cursor = next;
+            }
+            Scanned::End => {
+                return Filled::Done {
+                    tokens: t,
+                    bytes: k,
+                };
+            }
+            Scanned::Refused { number, place } => {
+                return Filled::Refused { number, place };
+            }
+        }
+    }
+}
+
+// 2, 3, then 4, 5 and 15: the tokens of a text into the table and the contents, each as long as the text at least.
+pub fn tokens(text: &[u8], classes: &[u8; 128], toks: &mut [u64], contents: &mut [u8]) -> Filled
+    requires { ⌜ (now classes ≡ table) × (length (now text) ≤ length (now toks)) × (length (now text) ≤ length (now contents)) ⌝ }
+    ensures { λ r. ⌜ IsFilled (scan (now (text .entry))) (now (toks .exit)) (now (contents .exit)) r ⌝ }
+{
+    if MOST_TEXT < text.len() {
+        return Filled::Refused {
+            number: TOO_LONG,
+            place: MOST_TEXT,
+        };
+    }
+    match chars::first_off(text, classes) {
+        Off::At(place) => Filled::Refused {
+            number: NOT_PERMITTED,
+            place,
+        },
+        Off::Nowhere => fill(text, classes, toks, contents),
+    }
 }

@@ -1,6 +1,6 @@
 // Keys to the library's line keeper.
-use figures::Decoded;
-use figures::front;
+use console_figures::Decoded;
+use console_figures::front;
 use libc::STDOUT_FILENO;
 use rules::Answer;
 use rules::Keeper;
@@ -24,7 +24,7 @@ struct Left {
 // Takes keys in hexadecimal to an empty keeper, and writes what they leave.
 pub fn run(digits: &[u8]) {
     let mut keys = [0u8; MOST_KEYS];
-    match figures::decode(digits, &mut keys) {
+    match console_figures::decode(digits, &mut keys) {
         Decoded::Bytes(n) => write_left(digits, press_all(front(&keys, n))),
         Decoded::Wrong(_) => {
             io::write_all(STDOUT_FILENO, b"no hexadecimal");
@@ -78,7 +78,7 @@ fn write_left(digits: &[u8], left: Left) {
     io::write_all(STDOUT_FILENO, digits);
     io::write_all(STDOUT_FILENO, b" -> ");
     let bytes = left.keeper.bytes;
-    lines::write_hex(STDOUT_FILENO, front(&bytes, left.keeper.count as usize));
+    console_lines::write_hex(STDOUT_FILENO, front(&bytes, left.keeper.count as usize));
     if left.ready {
         io::write_all(STDOUT_FILENO, b" | ready");
     } else {

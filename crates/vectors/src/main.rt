@@ -3,11 +3,11 @@
 // hexadecimal, or `!KEYS` with the keys in hexadecimal.
 mod keys;
 
-use figures::Decoded;
-use figures::front;
+use console_figures::Decoded;
+use console_figures::front;
+use console_lines::BLOCK;
+use console_lines::Got;
 use libc::STDOUT_FILENO;
-use lines::BLOCK;
-use lines::Got;
 use rules::Answer;
 
 // The longest line of the input that is run whole.
@@ -30,10 +30,10 @@ fn main() {
 
 // Runs one line after the other. No input has as many lines as there are turns.
 fn run(block: &mut [u8; BLOCK], line: &mut [u8]) {
-    let mut input = lines::start();
+    let mut input = console_lines::start();
     let mut turns = u64::MAX;
     while 0 < turns {
-        match lines::next_line(block, input, line) {
+        match console_lines::next_line(block, input, line) {
             Got::End => {
                 return;
             }
@@ -122,7 +122,7 @@ fn write_refusal(number: u8, place: u32) {
 
 // Writes a record, its text, its number of orders, and whether the text is read as this record.
 fn write_record(record: &[u8]) {
-    lines::write_hex(STDOUT_FILENO, record);
+    console_lines::write_hex(STDOUT_FILENO, record);
     io::write_all(STDOUT_FILENO, b" | ");
     let mut text = [0u8; LONGEST_TEXT];
     match mml::print(record, &mut text) {
@@ -156,7 +156,7 @@ fn write_count(n: u32) {
 fn is_read_again(record: &[u8], text: &[u8]) -> bool {
     let mut bases = [0u8; MOST_PLACES];
     let mut again = io::large_buffer();
-    let n = figures::own_bases(record, &mut bases);
+    let n = console_figures::own_bases(record, &mut bases);
     match mml::read(text, front(&bases, n), &mut again) {
         Answer::Done(k) => check::same(front(&again, k as usize), record),
         Answer::Refused(_, _) => false,
@@ -168,7 +168,7 @@ fn run_record(digits: &[u8]) {
     io::write_all(STDOUT_FILENO, digits);
     io::write_all(STDOUT_FILENO, b" -> ");
     let mut record = io::large_buffer();
-    match figures::decode(digits, &mut record) {
+    match console_figures::decode(digits, &mut record) {
         Decoded::Bytes(n) => write_orders(front(&record, n)),
         Decoded::Wrong(_) => {
             io::write_all(STDOUT_FILENO, b"no hexadecimal");

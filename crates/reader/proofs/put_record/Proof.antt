@@ -7,8 +7,8 @@ use Rattle.reader.proofs.put_record.Statement.{statement}
 use Rattle.reader.proofs.put_record.Tie as tie
 use Rattle.reader.proofs.put_record.Reads as reads
 use Rattle.reader.proofs.put_record.Lts as lts
-use Rattle.blocks.proofs.command.Reads as command-reads
-use Rattle.recorder.proofs.put_command.Reads as put-command-reads
+use Rattle.read_command.proofs.command.Reads as command-reads
+use Rattle.command_fields.proofs.put_command.Reads as put-command-reads
 
 -- src/lib.rt:35:11
 command-requires : tie.Need-command-requires

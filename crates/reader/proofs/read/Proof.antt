@@ -5,7 +5,7 @@ use Rattle.reader.proofs.read.Statement.{statement}
 use Rattle.reader.proofs.read.Tie as tie
 use Rattle.reader.proofs.read.Reads as reads
 use Rattle.reader.proofs.read.Lts as lts
-use Rattle.bases.proofs.letters.Reads as letters-reads
+use Rattle.read_bases.proofs.letters.Reads as letters-reads
 use Rattle.reader.proofs.read_text.Reads as read-text-reads
 
 -- src/lib.rt:95:11

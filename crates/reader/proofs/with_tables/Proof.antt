@@ -9,7 +9,7 @@ use Rattle.reader.proofs.with_tables.Tie as tie
 use Rattle.reader.proofs.with_tables.Reads as reads
 use Rattle.reader.proofs.with_tables.Lts as lts
 use Rattle.reader.proofs.put_filled.Reads as put-filled-reads
-use Rattle.tokens.proofs.tokens.Reads as tokens-reads
+use Rattle.scan.proofs.tokens.Reads as tokens-reads
 
 -- src/lib.rt:73:11
 tokens-requires : tie.Need-tokens-requires

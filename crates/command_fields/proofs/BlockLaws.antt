@@ -1,0 +1,314 @@
+-- Places behind places and blocks behind blocks: each turn writes the next part of the table that the rules read, and what is left is read behind it.
+use Prim.Native.Nat.{ℕ, suc, _+_, _-_, _≤_, _<_}
+use mathlib.Core.Path.{_≡_, refl, sym, ap, _∙_, subst}
+use mathlib.Core.Bool.{Bool, true, cond}
+use mathlib.Core.List.{List, [], _∷_, _++_, map}
+use native.Mathlib.Numerals.{add-one}
+use native.Mathlib.Omega.{arith}
+use borrow.Author.Tests.{ltb-true, ltb-false}
+use lib.Dec.{ltb}
+use lib.ListN.{length, getD, take, drop, length-append, drop-of-length-le}
+use Rattle.laws.specs.Cases.{byBool}
+use Rattle.laws.specs.Over.{over, part, back, length-part}
+use Rattle.rules.specs.Characters.{byte}
+use Rattle.rules.specs.Commands.{Name, placeName, Command, command, seg, split, Cut, cut, uncut, cutAt, pieces}
+use Rattle.rules.specs.Reading.{Placed, unplaced, PlacedBlock, placedBlock, blockOf, blockSize, kindOf, readPlace, readPlaces, readBlock, readBlocks, runningBlocks, readSegs, readCut}
+use Rattle.rules.specs.Records.{field, fieldBytes, bytesOf, many, placeFields, blockFields, encode}
+use Rattle.rules.specs.Refusals.{ok, _>>=_, mapR}
+use Rattle.rules.specs.Tokens.{comma, colon, semi}
+use Rattle.rules.specs.Units.{Base, isIdentifier}
+use Rattle.rules.proofs.ResultLaws.{ok-inj, ok≢bad, bind-ok, map-ok, guard-ok}
+use Rattle.token_table.specs.Table.{placeIn, tokensIn}
+use Rattle.value_fields.proofs.BytesLaws.{bytes-append}
+use Rattle.read_bases.specs.Bases.{basesIn}
+use Rattle.token_table.specs.Parts.{before, placeOr, partsFrom, wordsIn, wordsSize}
+use Rattle.token_table.proofs.FindLaws.{parts-all, parts-next, parts-end, cut-at, cut-none}
+use Rattle.token_table.proofs.WordLaws.{pieces-words, words-bytes}
+use Rattle.read_command.specs.Blocks.{HasKind}
+use Rattle.command_fields.specs.Recorder.{wordBytes, placeBytes, placesBytes, blockBytes, blocksBytes, Wrote, PlaceFits, PutPlace, PlacesFit, PutPlaces, BlockFits, PutBlock, BlocksFit, PutBlocks, SegmentsFit, PutSegments, CommandFits, PutCommand}
+use Rattle.command_fields.proofs.WritingLaws.{Writing, writing-none, writing-more, writing-all, writing-room, writing-long}
+use Rattle.command_fields.proofs.PlaceLaws.{chained, room-behind}
+
+-- ---- the loop over places
+
+-- with the place e for the separator behind them: the places from index i on are left
+pub record PlacesLeft (ts cs ls : List ℕ) (k : Bool) (n₀ : ℕ) (old : List ℕ) (e : ℕ) (xs : List Placed) (i n z : ℕ) (o : List ℕ) : Type 0 where
+  names : List Name
+  rest : List Placed
+  is : readPlaces k (basesIn ls) n names (partsFrom comma e cs ts i) ≡ ok rest
+  at : Writing (placesBytes xs) (placesBytes rest) old z o
+  count : n + length rest ≡ n₀ + length xs
+
+abbrev pub Placing : List ℕ → List ℕ → List ℕ → Bool → ℕ → List ℕ → ℕ → ℕ → ℕ → List ℕ → Type 0
+Placing ts cs ls k n₀ old i n z o =
+    (e : ℕ) (xs : List Placed) → readPlaces k (basesIn ls) n₀ [] (split comma e (tokensIn cs ts)) ≡ ok xs → PlacesLeft ts cs ls k n₀ old e xs i n z o
+
+pub placing-none : (ts cs ls : List ℕ) (k : Bool) (n₀ : ℕ) (old : List ℕ) → Placing ts cs ls k n₀ old 0 n₀ 0 old
+placing-none ts cs ls k n₀ old e xs h = record { names = []; rest = xs; is = rw (parts-all comma e cs ts) h; at = writing-none (placesBytes xs) old; count = refl }
+
+module _ (ts cs ls : List ℕ) (k : Bool) (n₀ : ℕ) (old : List ℕ) (i n z : ℕ) (o : List ℕ) where
+  -- the next place, between i and j, and what is left behind it
+  record NextPlace (j e : ℕ) (xs : List Placed) : Type 0 where
+    names : List Name
+    x : Placed
+    more : List Placed
+    here : readPlace k (basesIn ls) n names (seg (tokensIn cs (take (j - i) (drop i ts))) (placeOr (drop j ts) e)) ≡ ok x
+    behind : readPlaces k (basesIn ls) (n + 1) (placeName (unplaced x) ∷ names) (partsFrom comma e cs ts (j + 1)) ≡ ok more
+    at : Writing (placesBytes xs) (placeBytes x ++ placesBytes more) old z o
+    count : n + 1 + length more ≡ n₀ + length xs
+    few : n < 32
+
+  next-place : {j : ℕ} (e : ℕ) (xs : List Placed) → i ≤ length ts → j ≡ i + before 6 (drop i ts) → PlacesLeft ts cs ls k n₀ old e xs i n z o → NextPlace j e xs
+  next-place {j} e xs h f w =
+      let s = seg (tokensIn cs (take (j - i) (drop i ts))) (placeOr (drop j ts) e) in
+      let us = partsFrom comma e cs ts (j + 1) in
+      bind-ok (readPlace k (basesIn ls) n (w .names) s) _ (w .rest) (rw (parts-next comma e cs ts i h f refl) at (w .is))
+      (λ x a g. map-ok (λ xs. x ∷ xs) (readPlaces k (basesIn ls) (suc n) (placeName (unplaced x) ∷ w .names) us) (w .rest) g
+      (λ more a′ r. record {
+        names = w .names;
+        x = x;
+        more = more;
+        here = a;
+        behind = rw (add-one n) a′;
+        at = subst (λ (l : List ℕ). Writing (placesBytes xs) l old z o) (sym (ap placesBytes r) ∙ bytes-append (placeFields (unplaced x)) (many placeFields (map unplaced more))) (w .at);
+        count = omega (arith, w .count, ap length r);
+        few = guard-ok (ltb n 32) 15 _ _ x a (λ y _. ltb-true n 32 y);
+      }))
+
+  module _ (v : Placing ts cs ls k n₀ old i n z o) where
+    module _ {j : ℕ} (w : PlacesFit ts cs ls k n₀ (length old)) (h : i ≤ length ts) (f : j ≡ i + before 6 (drop i ts)) where
+      now′ : NextPlace j (w .end) (w .xs)
+      now′ = next-place (w .end) (w .xs) h f (v (w .end) (w .xs) (w .is))
+
+      pub placing-few : n < 32
+      placing-few = now′ .few
+
+      pub placing-room : z ≤ length old
+      placing-room = omega (arith, writing-room _ (now′ .at) (w .fits))
+
+      pub placing-fits : PlaceFits (take (j - i) (drop i ts)) cs ls k n (length (part o z))
+      placing-fits =
+          let x = placeBytes (now′ .x) in
+          let m = placesBytes (now′ .more) in
+          record {
+            end = placeOr (drop j ts) (w .end);
+            names = now′ .names;
+            x = now′ .x;
+            is = now′ .here;
+            fits = omega (arith, writing-room (x ++ m) (now′ .at) (w .fits), writing-long (x ++ m) (now′ .at) (w .fits), length-append x m, length-part o z);
+          }
+
+    pub placing-long : PlacesFit ts cs ls k n₀ (length old) → length o ≡ length old
+    placing-long w = let l = v (w .end) (w .xs) (w .is) in writing-long (placesBytes (l .rest)) (l .at) (w .fits)
+
+    pub placing-more : {j r : ℕ} {ys : List ℕ} → i ≤ length ts → j ≡ i + before 6 (drop i ts) → PutPlace (take (j - i) (drop i ts)) cs ls k n r (part o z) ys
+        → Placing ts cs ls k n₀ old (j + 1) (n + 1) (z + r) (back o z ys)
+    placing-more {j} h f p e xs g =
+        let q = next-place e xs h f (v e xs g) in
+        record { names = placeName (unplaced (q .x)) ∷ q .names; rest = q .more; is = q .behind; at = writing-more (placeBytes (q .x)) (placesBytes (q .more)) (q .at) (p (q .names) (placeOr (drop j ts) e) (q .x) (q .here)); count = q .count }
+
+    pub placing-all : length ts < i → PutPlaces ts cs ls k n₀ z n old o
+    placing-all h e xs g =
+        let l = v e xs g in
+        let r : l .rest ≡ [] = sym (ok-inj (sym (rw (parts-end comma e cs ts i h)) ∙ l .is)) in
+        (omega (arith, l .count, ap length r), writing-all (subst (λ (m : List Placed). Writing (placesBytes xs) (placesBytes m) old z o) r (l .at)))
+
+-- ---- a block
+
+-- a block that is read: its kind, its places
+record BlockIs (ts cs ls : List ℕ) (k : Bool) (n e : ℕ) (b : PlacedBlock) : Type 0 where
+  xs : List Placed
+  places : readPlaces k (basesIn ls) n [] (split comma e (tokensIn cs ts)) ≡ ok xs
+  many′ : blockSize b ≡ length xs
+  bytes : blockBytes b ≡ fieldBytes (field 2 (cond k (byte "N") (byte "P") ∷ [])) ++ placesBytes xs
+
+module _ (ts cs ls : List ℕ) (n : ℕ) {k : Bool} (g : HasKind ts k) where
+  block-is : (e : ℕ) (b : PlacedBlock) → readBlock (basesIn ls) n (split comma e (tokensIn cs ts)) ≡ ok b → BlockIs ts cs ls k n e b
+  block-is e b h =
+      let ss = split comma e (tokensIn cs ts) in
+      map-ok (λ ps. placedBlock (kindOf ss) ps) (readPlaces (kindOf ss) (basesIn ls) n [] ss) b h
+      (λ xs a r. record { xs = xs; places = rw (g cs e) a; many′ = ap blockSize (sym r); bytes = rw (← r, g cs e) })
+
+  pub block-room : (room : ℕ) → BlockFits ts cs ls n room → 4 ≤ room
+  block-room room w =
+      let i = block-is (w .end) (w .b) (w .is) in
+      omega (arith, ap length (i .bytes), w .fits, length-append (fieldBytes (field 2 (cond k (byte "N") (byte "P") ∷ []))) (placesBytes (i .xs)))
+
+  module _ (old : List ℕ) {xs : List ℕ} {p : ℕ} (v : Wrote (fieldBytes (field 2 (cond k (byte "N") (byte "P") ∷ []))) p old xs) where
+    pub block-places : BlockFits ts cs ls n (length old) → PlacesFit ts cs ls k n (length (part xs p))
+    block-places w =
+        let i = block-is (w .end) (w .b) (w .is) in
+        record {
+          end = w .end;
+          xs = i .xs;
+          is = i .places;
+          fits = room-behind (fieldBytes (field 2 (cond k (byte "N") (byte "P") ∷ []))) (placesBytes (i .xs)) old v (omega (arith, ap length (i .bytes), w .fits));
+        }
+
+    pub block-put : {r m : ℕ} {ys : List ℕ} → PutPlaces ts cs ls k n r m (part xs p) ys → PutBlock ts cs ls n (p + r) m old (back xs p ys)
+    block-put w e b h =
+        let i = block-is e b h in
+        let z = w e (i .xs) (i .places) in
+        (omega (arith, z .0, i .many′), rw (i .bytes) (chained (fieldBytes (field 2 (cond k (byte "N") (byte "P") ∷ []))) (placesBytes (i .xs)) old v (z .1)))
+
+-- ---- the loop over blocks
+
+pub record BlocksLeft (ts cs ls old : List ℕ) (e : ℕ) (bs : List PlacedBlock) (i n z : ℕ) (o : List ℕ) : Type 0 where
+  m : ℕ
+  q : ℕ
+  rest : List PlacedBlock
+  is : readBlocks (basesIn ls) m n q (partsFrom colon e cs ts i) ≡ ok rest
+  at : Writing (blocksBytes bs) (blocksBytes rest) old z o
+
+-- with the place e for the separator behind them and q for the first `:`: the blocks from index i on are left
+abbrev pub Blocking : List ℕ → List ℕ → List ℕ → ℕ → List ℕ → ℕ → ℕ → ℕ → List ℕ → Type 0
+Blocking ts cs ls i₀ old i n z o =
+    (e q : ℕ) (bs : List PlacedBlock) → readBlocks (basesIn ls) 0 0 q (partsFrom colon e cs ts i₀) ≡ ok bs → BlocksLeft ts cs ls old e bs i n z o
+
+pub blocking-none : (ts cs ls : List ℕ) (i : ℕ) (old : List ℕ) → Blocking ts cs ls i old i 0 0 old
+blocking-none ts cs ls i old e q bs h = record { m = 0; q = q; rest = bs; is = h; at = writing-none (blocksBytes bs) old }
+
+module _ (ts cs ls : List ℕ) (i₀ : ℕ) (old : List ℕ) (i n z : ℕ) (o : List ℕ) where
+  record NextBlock (j e : ℕ) (bs : List PlacedBlock) : Type 0 where
+    m : ℕ
+    b : PlacedBlock
+    more : List PlacedBlock
+    here : readBlock (basesIn ls) n (split comma (placeOr (drop j ts) e) (tokensIn cs (take (j - i) (drop i ts)))) ≡ ok b
+    behind : readBlocks (basesIn ls) m (n + blockSize b) (placeOr (drop j ts) e) (partsFrom colon e cs ts (j + 1)) ≡ ok more
+    at : Writing (blocksBytes bs) (blockBytes b ++ blocksBytes more) old z o
+
+  next-block : {j : ℕ} (e : ℕ) (bs : List PlacedBlock) → i ≤ length ts → j ≡ i + before 7 (drop i ts) → BlocksLeft ts cs ls old e bs i n z o → NextBlock j e bs
+  next-block {j} e bs h f w =
+      let p = placeOr (drop j ts) e in
+      let us = partsFrom colon e cs ts (j + 1) in
+      guard-ok (ltb (w .m) 8) 15 (w .q) _ (w .rest) (rw (parts-next colon e cs ts i h f refl) at (w .is))
+      (λ y g. bind-ok (readBlock (basesIn ls) n (split comma p (tokensIn cs (take (j - i) (drop i ts))))) (λ b. mapR (λ r. b ∷ r) (readBlocks (basesIn ls) (suc (w .m)) (n + blockSize b) p us)) (w .rest) g
+      (λ b a g2. map-ok (λ r. b ∷ r) (readBlocks (basesIn ls) (suc (w .m)) (n + blockSize b) p us) (w .rest) g2
+      (λ more a′ r. record {
+        m = suc (w .m);
+        b = b;
+        more = more;
+        here = a;
+        behind = a′;
+        at = subst (λ (l : List ℕ). Writing (blocksBytes bs) l old z o) (sym (ap blocksBytes r) ∙ bytes-append (blockFields (blockOf b)) (many blockFields (map blockOf more))) (w .at);
+      })))
+
+  module _ (v : Blocking ts cs ls i₀ old i n z o) where
+    module _ {j : ℕ} (w : BlocksFit ts cs ls i₀ (length old)) (h : i ≤ length ts) (f : j ≡ i + before 7 (drop i ts)) where
+      here′ : NextBlock j (w .end) (w .bs)
+      here′ = next-block (w .end) (w .bs) h f (v (w .end) (w .q) (w .bs) (w .is))
+
+      pub blocking-room : z ≤ length old
+      blocking-room = omega (arith, writing-room _ (here′ .at) (w .fits))
+
+      pub blocking-fits : BlockFits (take (j - i) (drop i ts)) cs ls n (length (part o z))
+      blocking-fits =
+          let x = blockBytes (here′ .b) in
+          let m = blocksBytes (here′ .more) in
+          record {
+            end = placeOr (drop j ts) (w .end);
+            b = here′ .b;
+            is = here′ .here;
+            fits = omega (arith, writing-room (x ++ m) (here′ .at) (w .fits), writing-long (x ++ m) (here′ .at) (w .fits), length-append x m, length-part o z);
+          }
+
+    pub blocking-long : BlocksFit ts cs ls i₀ (length old) → length o ≡ length old
+    blocking-long w = let l = v (w .end) (w .q) (w .bs) (w .is) in writing-long (blocksBytes (l .rest)) (l .at) (w .fits)
+
+    pub blocking-more : {j r m : ℕ} {ys : List ℕ} → i ≤ length ts → j ≡ i + before 7 (drop i ts) → PutBlock (take (j - i) (drop i ts)) cs ls n r m (part o z) ys
+        → Blocking ts cs ls i₀ old (j + 1) m (z + r) (back o z ys)
+    blocking-more {j} h f p e q bs g =
+        let x = next-block e bs h f (v e q bs g) in
+        let w = p (placeOr (drop j ts) e) (x .b) (x .here) in
+        record {
+          m = x .m;
+          q = placeOr (drop j ts) e;
+          rest = x .more;
+          is = rw (w .0) (x .behind);
+          at = writing-more (blockBytes (x .b)) (blocksBytes (x .more)) (x .at) (w .1);
+        }
+
+    pub blocking-all : length ts < i → PutBlocks ts cs ls i₀ z old o
+    blocking-all h e q bs g =
+        let l = v e q bs g in
+        let r : l .rest ≡ [] = sym (ok-inj (sym (rw (parts-end colon e cs ts i h)) ∙ l .is)) in
+        writing-all (subst (λ (m : List PlacedBlock). Writing (blocksBytes bs) (blocksBytes m) old z o) r (l .at))
+
+-- ---- the code and the blocks
+
+record SegmentsAre (ts cs ls : List ℕ) (k e : ℕ) (c : Command) : Type 0 where
+  q : ℕ
+  bs : List PlacedBlock
+  blocks : readBlocks (basesIn ls) 0 0 q (partsFrom colon e cs ts (k + 1)) ≡ ok bs
+  bytes : encode c ≡ wordBytes 1 (wordsIn true cs (take k ts)) ++ blocksBytes bs
+
+module _ (ts cs ls : List ℕ) {k : ℕ} (f : k ≡ 0 + before 7 (drop 0 ts)) where
+  segments-are : (e : ℕ) (c : Command) → readSegs (basesIn ls) (split colon e (tokensIn cs ts)) ≡ ok c → SegmentsAre ts cs ls k e c
+  segments-are e c h =
+      let z : k - 0 ≡ k = omega arith in
+      let p = placeOr (drop k ts) e in
+      bind-ok (pieces 8 isIdentifier isIdentifier 2 true (tokensIn cs (take k ts)) p) _ c
+      (rw (← parts-all colon e cs ts, parts-next colon e cs ts 0 (omega arith) f refl, z) at h)
+      (λ ws a h1. bind-ok (readBlocks (basesIn ls) 0 0 p (partsFrom colon e cs ts (k + 1))) _ c h1
+      (λ bs b h2. bind-ok (runningBlocks 1 bs) (λ _. ok (command ws (map blockOf bs))) c h2
+      (λ m d h3. record {
+        q = p;
+        bs = bs;
+        blocks = b;
+        bytes = rw (← (ok-inj h3), bytes-append (map (λ w. field 1 w) ws) (many blockFields (map blockOf bs)), pieces-words cs (take k ts) true 8 isIdentifier isIdentifier 2 p ws a);
+      })))
+
+  module _ (room : ℕ) (w : SegmentsFit ts cs ls room) where
+    are : SegmentsAre ts cs ls k (w .end) (w .c)
+    are = segments-are (w .end) (w .c) (w .is)
+
+    both : length (wordBytes 1 (wordsIn true cs (take k ts)) ++ blocksBytes (are .bs)) ≤ room
+    both = omega (arith, ap length (are .bytes), w .fits)
+
+    pub code-room : wordsSize (wordsIn true cs (take k ts)) ≤ room
+    code-room =
+        let ws = wordsIn true cs (take k ts) in
+        omega (arith, both, length-append (wordBytes 1 ws) (blocksBytes (are .bs)), words-bytes 1 ws)
+
+  module _ (old : List ℕ) {xs : List ℕ} {p : ℕ} (v : Wrote (wordBytes 1 (wordsIn true cs (take k ts))) p old xs) where
+    pub segments-blocks : SegmentsFit ts cs ls (length old) → BlocksFit ts cs ls (k + 1) (length (part xs p))
+    segments-blocks w =
+        let i = are (length old) w in
+        record {
+          end = w .end;
+          q = i .q;
+          bs = i .bs;
+          is = i .blocks;
+          fits = room-behind (wordBytes 1 (wordsIn true cs (take k ts))) (blocksBytes (i .bs)) old v (both (length old) w);
+        }
+
+    pub segments-put : {r : ℕ} {ys : List ℕ} → PutBlocks ts cs ls (k + 1) r (part xs p) ys → PutSegments ts cs ls (p + r) old (back xs p ys)
+    segments-put w e c h =
+        let i = segments-are e c h in
+        rw (i .bytes) (chained (wordBytes 1 (wordsIn true cs (take k ts))) (blocksBytes (i .bs)) old v (w e (i .q) (i .bs) (i .blocks)))
+
+-- ---- the whole
+
+module _ (ts cs ls : List ℕ) {k : ℕ} (f : k ≡ 0 + before 9 (drop 0 ts)) where
+  -- a command that is read ends with its `;`
+  whole-is : (n : ℕ) (c : Command) → readCut (basesIn ls) n (cutAt semi (tokensIn cs ts)) ≡ ok c
+      → (k ≤ length ts) × (readSegs (basesIn ls) (split colon (placeIn (getD ts k 0)) (tokensIn cs (take k ts))) ≡ ok c)
+  whole-is n c h =
+      byBool (ltb k (length ts))
+      (λ y. let l = ltb-true k (length ts) y in
+      (omega arith, go (drop (k + 1) ts) (rw (cut-at semi cs ts f l) at h)))
+      (λ y. ok≢bad (rw (cut-none semi cs ts f (ltb-false k (length ts) y)) at h))
+    where
+      go : (us : List ℕ) → readCut (basesIn ls) n (cut (tokensIn cs (take k ts)) (placeIn (getD ts k 0)) (tokensIn cs us)) ≡ ok c
+          → readSegs (basesIn ls) (split colon (placeIn (getD ts k 0)) (tokensIn cs (take k ts))) ≡ ok c
+      go [] g = g
+      go (u ∷ us) g = ok≢bad g
+
+  pub command-inside : (room : ℕ) → CommandFits ts cs ls room → k ≤ length ts
+  command-inside room w = (whole-is (w .end) (w .c) (w .is)) .0
+
+  pub command-segments : (room : ℕ) → CommandFits ts cs ls room → SegmentsFit (take k ts) cs ls room
+  command-segments room w = record { end = placeIn (getD ts k 0); c = w .c; is = (whole-is (w .end) (w .c) (w .is)) .1; fits = w .fits }
+
+  pub command-put : {r : ℕ} {old new : List ℕ} → PutSegments (take k ts) cs ls r old new → PutCommand ts cs ls r old new
+  command-put p n c h = p (placeIn (getD ts k 0)) c ((whole-is n c h) .1)

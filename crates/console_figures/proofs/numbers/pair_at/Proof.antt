@@ -1,0 +1,68 @@
+-- `console_figures::numbers::pair_at` meets its contract: each way out is decided by the two digits, and past the end there is none.
+-- Assumes nothing.
+use borrow.Author.Needs.{needs}
+use denote.Ref.{now}
+use lib.ListN.{getD}
+use Prim.Native.Nat.{_+_}
+use Rattle.console_figures.proofs.NumbersLaws.{hex-most, pair-first, pair-end, pair-second, pair-both}
+use Rattle.console_figures.proofs.numbers.pair_at.Statement.{statement}
+use Rattle.console_figures.proofs.numbers.pair_at.Tie as tie
+use Rattle.console_figures.proofs.numbers.pair_at.Reads as reads
+use Rattle.console_figures.proofs.numbers.pair_at.Lts as lts
+use Rattle.console_figures.proofs.numbers.hex_value.Reads as hex-value-reads
+
+shared-slice-read-hex-value : tie.Need-shared-slice-read-hex-value
+shared-slice-read-hex-value c = search needs
+
+hex-value-requires : tie.Need-hex-value-requires
+hex-value-requires c κs = search needs
+
+returns : tie.Need-returns
+returns c = search (needs, pair-first)
+
+add-next : tie.Need-add-next
+add-next c = search needs
+
+returns-2 : tie.Need-returns-2
+returns-2 c = search (needs, pair-end)
+
+shared-slice-read-hex-value-2 : tie.Need-shared-slice-read-hex-value-2
+shared-slice-read-hex-value-2 c = search needs
+
+hex-value-requires-2 : tie.Need-hex-value-requires-2
+hex-value-requires-2 c κs = search needs
+
+returns-3 : tie.Need-returns-3
+returns-3 c = search (needs, pair-second)
+
+mul-t7 : tie.Need-mul-t7
+mul-t7 c =
+    let a = c .before .before .before .before .before .before .before .before .args in
+    let h = hex-most (getD (now (a .text)) (a .at) 0) in
+    search (needs, h)
+
+add-t11 : tie.Need-add-t11
+add-t11 c =
+    let a = c .before .before .before .before .before .before .before .before .args in
+    let h = hex-most (getD (now (a .text)) (a .at) 0) in
+    let l = hex-most (getD (now (a .text)) (a .at + 1) 0) in
+    search (needs, h, l)
+
+returns-4 : tie.Need-returns-4
+returns-4 c = search (needs, pair-both)
+
+pub pair-at-spec : {M : Type 1} → statement M
+pair-at-spec =
+    tie.close
+    (tie.spec
+    shared-slice-read-hex-value
+    hex-value-requires
+    returns
+    add-next
+    returns-2
+    shared-slice-read-hex-value-2
+    hex-value-requires-2
+    returns-3
+    mul-t7
+    add-t11
+    returns-4)

@@ -1,0 +1,48 @@
+-- Each manner by its arm.
+use borrow.Author.Needs.{needs}
+use Rattle.console_typing.proofs.meant.Statement.{statement}
+use Rattle.console_typing.proofs.meant.Tie as tie
+use Rattle.console_typing.proofs.meant.Reads as reads
+use Rattle.console_typing.proofs.meant.Lts as lts
+use Rattle.console_typing.proofs.typed.Reads as typed-reads
+
+enum-told : tie.Need-enum-told
+enum-told c = search needs
+
+typed-requires : tie.Need-typed-requires
+typed-requires c κs = search needs
+
+enum-told-2 : tie.Need-enum-told-2
+enum-told-2 c = search needs
+
+enum-told-3 : tie.Need-enum-told-3
+enum-told-3 c = search needs
+
+enum-told-4 : tie.Need-enum-told-4
+enum-told-4 c = search needs
+
+returns : tie.Need-returns
+returns c = rw (c .before .enum-told .given .1) (c .typed .ensures)
+
+returns-2 : tie.Need-returns-2
+returns-2 c = rw (c .enum-told2 .given .1)
+
+returns-3 : tie.Need-returns-3
+returns-3 c = rw (c .enum-told3 .given .1)
+
+returns-4 : tie.Need-returns-4
+returns-4 c = rw (c .enum-told4 .given .1)
+
+pub meant-spec : {M : Type 1} → statement M
+meant-spec =
+    tie.close
+    (tie.spec
+    enum-told
+    typed-requires
+    enum-told-2
+    enum-told-3
+    enum-told-4
+    returns
+    returns-2
+    returns-3
+    returns-4)

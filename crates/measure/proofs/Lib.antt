@@ -1,3 +1,0 @@
-pub mod BytesLaws
-pub mod TurnLaws
-pub mod MeasureLaws

@@ -1,0 +1,52 @@
+-- `last_end` meets its contract: its tests are those of the definition, and an argument in full ends at the first separator that is no `-`.
+use native.Mathlib.Omega.{arith}
+use Rattle.read_elements.proofs.ElementLaws.{end-none, end-short, end-full, end-other}
+use mathlib.Core.List.{[]}
+use borrow.Author.Needs.{needs}
+use Rattle.read_elements.proofs.last_end.Statement.{statement}
+use Rattle.read_elements.proofs.last_end.Tie as tie
+
+sep-kind-requires : tie.Need-sep-kind-requires
+sep-kind-requires c κs = search needs
+
+returns : tie.Need-returns
+returns c = search (needs, end-none)
+
+add-result : tie.Need-add-result
+add-result c = search needs
+
+returns-2 : tie.Need-returns-2
+returns-2 c = search (needs, end-short)
+
+add-arg-end : tie.Need-add-arg-end
+add-arg-end c = search needs
+
+arg-end-requires : tie.Need-arg-end-requires
+arg-end-requires c κs = search needs
+
+sub-if3 : tie.Need-sub-if3
+sub-if3 c = omega (arith, c .arg-end .ensures 0 [])
+
+sub-if3-2 : tie.Need-sub-if3-2
+sub-if3-2 c = omega (arith, c .arg-end .ensures 0 [])
+
+returns-3 : tie.Need-returns-3
+returns-3 c = search (needs, end-full)
+
+returns-4 : tie.Need-returns-4
+returns-4 c = search (needs, end-other)
+
+pub last-end-spec : {M : Type 1} → statement M
+last-end-spec =
+    tie.close
+    (tie.spec
+    sep-kind-requires
+    returns
+    add-result
+    returns-2
+    add-arg-end
+    arg-end-requires
+    sub-if3
+    sub-if3-2
+    returns-3
+    returns-4)

@@ -1,0 +1,50 @@
+-- `sep_place` meets its contract: its tests are those of the definition.
+use borrow.Author.Tests.{ne-eqb, lt-ltb, le-ltb}
+use Rattle.read_joins.specs.Joins.{sepPlace}
+use borrow.Author.Needs.{needs}
+use Rattle.read_joins.proofs.sep_place.Statement.{statement}
+use Rattle.read_joins.proofs.sep_place.Tie as tie
+
+returns : tie.Need-returns
+unfolding sepPlace
+returns c = rw (c .if1 .taken)
+
+count-requires : tie.Need-count-requires
+count-requires c κs = search needs
+
+add-place : tie.Need-add-place
+add-place c = search needs
+
+sub-place : tie.Need-sub-place
+sub-place c = search needs
+
+mul-place : tie.Need-mul-place
+mul-place c = search needs
+
+shared-slice-read-place : tie.Need-shared-slice-read-place
+shared-slice-read-place c = search needs
+
+place-requires : tie.Need-place-requires
+place-requires c κs = search needs
+
+returns-2 : tie.Need-returns-2
+unfolding sepPlace
+returns-2 c = let d = c .before .before .before in rw (ne-eqb _ _ (d .before .if1 .left), ← d .count .ensures, lt-ltb _ _ (c .before .before .if2 .taken)) (c .place .ensures)
+
+returns-3 : tie.Need-returns-3
+unfolding sepPlace
+returns-3 c = rw (ne-eqb _ _ (c .before .before .if1 .left), ← c .before .count .ensures, le-ltb _ _ (c .if2 .left))
+
+pub sep-place-spec : {M : Type 1} → statement M
+sep-place-spec =
+    tie.close
+    (tie.spec
+    returns
+    count-requires
+    add-place
+    sub-place
+    mul-place
+    shared-slice-read-place
+    place-requires
+    returns-2
+    returns-3)

@@ -1,0 +1,27 @@
+-- `is_twice` meets its contract: a name whose key is not marked was not met.
+use mathlib.Core.Bool.{true}
+use denote.Ref.{now}
+use Rattle.token_table.specs.Parts.{wordsIn}
+use Rattle.read_names.proofs.NameLaws.{tell-looked, tell-new}
+use borrow.Author.Needs.{needs}
+use Rattle.read_names.proofs.is_twice.Statement.{statement}
+use Rattle.read_names.proofs.is_twice.Tie as tie
+use Rattle.read_names.proofs.is_twice.Reads as reads
+use Rattle.read_names.proofs.is_twice.Lts as lts
+use Rattle.marks.proofs.has.Reads as has-reads
+use Rattle.read_names.proofs.stands.Reads as stands-reads
+
+has-requires : tie.Need-has-requires
+has-requires c κs = search needs
+
+stands-requires : tie.Need-stands-requires
+stands-requires c κs = search needs
+
+returns : tie.Need-returns
+returns c = let a = c .before .before .before .before .before .before .args in λ ns v k. tell-looked v (wordsIn true (now (a .contents)) (now (a .name))) (c .stands .ensures)
+
+returns-2 : tie.Need-returns-2
+returns-2 c = let a = c .before .before .before .before .before .args in λ ns v k. tell-new v (wordsIn true (now (a .contents)) (now (a .name))) k (c .before .has .ensures) (c .if1 .left)
+
+pub is-twice-spec : {M : Type 1} → statement M
+is-twice-spec = tie.close (tie.spec has-requires stands-requires returns returns-2)

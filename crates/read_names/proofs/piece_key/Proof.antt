@@ -1,0 +1,44 @@
+-- `piece_key` meets its contract: what is cut out of the contents is the token's content.
+use borrow.Author.Needs.{needs}
+use mathlib.Core.Path.{_∙_, ap}
+use native.Mathlib.Omega.{arith}
+use denote.Ref.{now}
+use Rattle.marks.specs.Marks.{keyOf}
+use Rattle.token_table.proofs.ContentLaws.{Cuts, cuts}
+use Rattle.read_names.proofs.piece_key.Statement.{statement}
+use Rattle.read_names.proofs.piece_key.Tie as tie
+use Rattle.read_names.proofs.piece_key.Reads as reads
+use Rattle.read_names.proofs.piece_key.Lts as lts
+use Rattle.marks.proofs.key.Reads as key-reads
+use Rattle.token_table.proofs.end.Reads as end-reads
+use Rattle.token_table.proofs.start.Reads as start-reads
+
+-- what is cut out is the token's content
+cut : (c : tie.After-end) → let a = c .before .before .before .args in Cuts (now (a .contents)) (a .t) (c .before .start .result) (c .end .result)
+cut c = let a = c .before .before .before .args in cuts (now (a .contents)) (a .t) (c .before .start .ensures) (c .end .ensures)
+
+start-requires : tie.Need-start-requires
+start-requires c κs = search needs
+
+end-requires : tie.Need-end-requires
+end-requires c κs = search needs
+
+sub-key : tie.Need-sub-key
+sub-key c = omega (arith, cut c)
+
+part-key-start : tie.Need-part-key-start
+part-key-start c = omega (arith, cut c)
+
+part-key-end : tie.Need-part-key-end
+part-key-end c = omega (arith, cut c)
+
+key-requires : tie.Need-key-requires
+key-requires c κs = search needs
+
+returns : tie.Need-returns
+returns c = c .key .ensures ∙ ap (keyOf (c .before .before .before .before .before .args .seed)) (cut (c .before .before) .is)
+
+pub piece-key-spec : {M : Type 1} → statement M
+piece-key-spec =
+    tie.close
+    (tie.spec start-requires end-requires sub-key part-key-start part-key-end key-requires returns)

@@ -1,5 +1,0 @@
-pub mod AltLaws
-pub mod PartLaws
-pub mod WithinLaws
-pub mod PackLaws
-pub mod ContentLaws

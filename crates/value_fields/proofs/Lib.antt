@@ -1,0 +1,4 @@
+pub mod BytesLaws
+pub mod TurnLaws
+pub mod MeasureLaws
+pub mod WriteLaws

@@ -1,0 +1,59 @@
+-- `units_len` meets its contract: at every turn the total is the length of the units done.
+use borrow.Author.Needs.{needs}
+use Rattle.value_fields.proofs.MeasureLaws.{units-none, units-more, units-all}
+use Rattle.value_fields.proofs.BytesLaws.{unit-small, units-small}
+use Rattle.value_fields.specs.Measure.{bytesFrom}
+use denote.Ref.{now}
+use lib.ListN.{length}
+use mathlib.Core.Path.{_≡_}
+use Prim.Native.Nat.{_+_, _-_, _≤_}
+use native.Mathlib.Omega.{arith}
+use Rattle.value_fields.proofs.units_len.Statement.{statement}
+use Rattle.value_fields.proofs.units_len.Tie as tie
+
+abbrev Inv-loop : tie.InvT-loop
+Inv-loop toks contents base n leads i₀ total₀ i total = (total ≡ length (bytesFrom base contents toks n i)) × (i ≤ leads)
+
+abbrev μ-loop : tie.MeasureT-loop
+μ-loop toks contents base n leads i₀ total₀ i total = leads - i
+
+loop-holds : tie.Need-loop-holds Inv-loop μ-loop
+loop-holds c = let a = c .before .before .args in (units-none (a .base) (now (a .contents)) (now (a .toks)) (a .n), omega arith)
+
+add-unit-len : tie.Need-add-unit-len Inv-loop μ-loop
+add-unit-len c = search needs
+
+unit-len-requires : tie.Need-unit-len-requires Inv-loop μ-loop
+unit-len-requires c κs = search needs
+
+add-total : tie.Need-add-total Inv-loop μ-loop
+add-total c =
+    let a = c .before .before .before .before .before .args in let l = c .before .before .loop in
+    omega (arith, l .inv .0, units-small (l .i) (a .base) (now (a .contents)) (now (a .toks)) (a .n), c .unit-len .ensures, unit-small (a .base) (now (a .contents)) (now (a .toks)) (a .n + l .i))
+
+add-i : tie.Need-add-i Inv-loop μ-loop
+add-i c = search needs
+
+loop-less : tie.Need-loop-less Inv-loop μ-loop
+loop-less c = search needs
+
+loop-again : tie.Need-loop-again Inv-loop μ-loop
+loop-again c = (search (needs, units-more), search needs)
+
+returns : tie.Need-returns Inv-loop μ-loop
+returns c = search (needs, units-all)
+
+pub units-len-spec : {M : Type 1} → statement M
+units-len-spec =
+    tie.close
+    (tie.spec
+    Inv-loop
+    μ-loop
+    loop-holds
+    add-unit-len
+    unit-len-requires
+    add-total
+    add-i
+    loop-less
+    loop-again
+    returns)
