@@ -25,12 +25,12 @@ use console_words::Asked;
 use console_words::Manner;
 use console_words::Verb;
 
-// The longest command has 1,024 bytes. Of a longer line one more is kept, and the library refuses.
-const COMMAND_LINE: usize = 1025;
+// Of a line that is longer than the longest command one byte more is kept, and the library refuses.
+const COMMAND_LINE: usize = rules::MOST_TEXT + 1;
 // Two digits for each byte of the longest record that is served, 65,536 bytes.
 const RECORD_LINE: usize = 131072;
-// The longest list of bases has 32 letters. Of a longer one, too, one more is kept.
-const BASES: usize = 33;
+// Of a list of bases that is longer than the longest, too, one letter more is kept.
+const BASES: usize = rules::MOST_LETTERS + 1;
 
 // Serves what the words ask, and tells what came of it.
 fn main() {

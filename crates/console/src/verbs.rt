@@ -4,11 +4,8 @@ use console_figures::front;
 use console_replies::Outcome;
 use console_words::Verb;
 use rules::Answer;
-
-// The longest command that the printer writes.
-const LONGEST_TEXT: usize = 1024;
-// The most places of a command, each with a base letter.
-const MOST_PLACES: usize = 32;
+use rules::MOST_PLACES;
+use rules::MOST_TEXT;
 
 // Serves a line of `long` bytes, of which `line` has kept the first.
 pub fn serve(verb: Verb, bases: &[u8], line: &[u8], long: usize) -> Outcome {
@@ -54,7 +51,7 @@ fn serve_accepted(verb: Verb, bases: &[u8], line: &[u8], record: &[u8]) -> Outco
 
 // Says that the command is accepted, how many orders it has and how the printer writes it.
 fn write_accepted(bases: &[u8], line: &[u8], record: &[u8]) -> Outcome {
-    let mut text = [0u8; LONGEST_TEXT];
+    let mut text = [0u8; MOST_TEXT];
     match mml::print(record, &mut text) {
         Answer::Done(n) => console_replies::write_accepted(
             order_count(record),
@@ -75,7 +72,7 @@ fn order_count(record: &[u8]) -> u64 {
 // Writes every order of a record with its number.
 fn write_orders(record: &[u8]) -> Outcome {
     let mut order = io::large_buffer();
-    let mut text = [0u8; LONGEST_TEXT];
+    let mut text = [0u8; MOST_TEXT];
     number_orders(record, order_count(record), &mut order, &mut text)
 }
 
@@ -109,7 +106,7 @@ fn write_numbered(record: &[u8], k: u64, order: &mut [u8], text: &mut [u8]) -> O
 // Writes order k of a record.
 fn write_order(bases: &[u8], line: &[u8], record: &[u8], k: u64) -> Outcome {
     let mut order = io::large_buffer();
-    let mut text = [0u8; LONGEST_TEXT];
+    let mut text = [0u8; MOST_TEXT];
     match order_text(record, k, &mut order, &mut text) {
         Answer::Done(n) => console_replies::write_text(front(&text, n as usize)),
         Answer::Refused(number, place) => console_replies::refuse(
@@ -152,7 +149,7 @@ fn serve_decoded(verb: Verb, line: &[u8], record: &[u8]) -> Outcome {
 
 // Writes the text of a record.
 fn write_text(line: &[u8], record: &[u8]) -> Outcome {
-    let mut text = [0u8; LONGEST_TEXT];
+    let mut text = [0u8; MOST_TEXT];
     match mml::print(record, &mut text) {
         Answer::Done(n) => console_replies::write_text(front(&text, n as usize)),
         Answer::Refused(number, place) => console_replies::refuse_record(line, number, place),

@@ -4,9 +4,6 @@ ghost use lib.ListN.{length};
 use hint_phrases::Hint;
 use scan::Filled;
 
-// The refusal of a word or a string that is too long, and of other limits.
-const TOO_MANY: u8 = 15;
-
 // Keys of the catalogue's phrases: of a command and of a record that is too long (2), of a record (18), of a key (20), and of a name (21).
 const SHORTER: u8 = b's';
 
@@ -21,7 +18,7 @@ const ONCE: u8 = b'o';
 // Writes what is told of a line.
 pub fn write_line_hint(fd: i32, line: &[u8], bases: &[u8], number: u8, place: u32) -> bool {
     if is_scanned(number) {
-        if line.len() <= scan::MOST_TEXT {
+        if line.len() <= rules::MOST_TEXT {
             return write_scanned(fd, line, bases, number, place);
         }
     }
@@ -36,21 +33,21 @@ pub fn write_line_hint(fd: i32, line: &[u8], bases: &[u8], number: u8, place: u3
 
 // Is a refusal told from the tokens?
 fn is_scanned(number: u8) -> bool {
-    6 <= number && number <= 16
+    rules::NO_END <= number && number <= rules::TOO_MANY_ORDERS
 }
 
 // What is told of a line without its tokens.
 fn text_hint(line: &[u8], bases: &[u8], number: u8, place: usize) -> Hint {
     match number {
-        1 => hint_text::why_base(bases, place),
-        2 => hint_phrases::plain(SHORTER),
-        3 => hint_text::why_byte(scan::byte(line, place)),
-        4 => hint_phrases::plain(hint_text::what_open(scan::byte(line, place))),
-        5 => hint_text::where_stray(line, place),
-        18 => hint_phrases::plain(RECORD),
-        19 => hint_text::which_orders(place),
-        20 => hint_phrases::plain(KEYS),
-        21 => hint_phrases::plain(ONCE),
+        rules::WRONG_LETTER => hint_text::why_base(bases, place),
+        rules::TOO_LONG => hint_phrases::plain(SHORTER),
+        rules::NOT_PERMITTED => hint_text::why_byte(scan::byte(line, place)),
+        rules::UNCLOSED => hint_phrases::plain(hint_text::what_open(scan::byte(line, place))),
+        rules::NO_TOKEN => hint_text::where_stray(line, place),
+        rules::NOT_WELL_FORMED => hint_phrases::plain(RECORD),
+        rules::NO_SUCH_ORDER => hint_text::which_orders(place),
+        rules::NO_KEY => hint_phrases::plain(KEYS),
+        rules::NAME_TWICE => hint_phrases::plain(ONCE),
         _ => hint_phrases::plain(hint_phrases::UNKNOWN),
     }
 }
@@ -69,8 +66,8 @@ pub fn write_record_hint(fd: i32, number: u8) -> bool {
 // What is told of a record.
 fn record_key(number: u8) -> u8 {
     match number {
-        2 => LONG_RECORD,
-        18 => RECORD,
+        rules::TOO_LONG => LONG_RECORD,
+        rules::NOT_WELL_FORMED => RECORD,
         _ => hint_phrases::UNKNOWN,
     }
 }
@@ -80,8 +77,8 @@ fn write_scanned(fd: i32, line: &[u8], bases: &[u8], number: u8, place: u32) -> 
     requires { ⌜ length (now line) ≤ 1024 ⌝ }
 {
     let classes = chars::table();
-    let mut toks = [0u64; scan::MOST_TEXT];
-    let mut contents = [0u8; scan::MOST_TEXT];
+    let mut toks = [0u64; rules::MOST_TEXT];
+    let mut contents = [0u8; rules::MOST_TEXT];
     let hint = match scan::tokens(line, &classes, &mut toks, &mut contents) {
         Filled::Done { tokens, bytes } => token_hint(
             line,
@@ -92,7 +89,7 @@ fn write_scanned(fd: i32, line: &[u8], bases: &[u8], number: u8, place: u32) -> 
             place,
         ),
         Filled::Refused {
-            number: found,
+            no: found,
             place: at,
         } => long_hint(scan::byte(line, at), found),
     };
@@ -109,7 +106,7 @@ fn front(toks: &[u64], n: usize) -> &[u64] {
 
 // What is told of a word or a string that is too long: `first` is its first byte.
 fn long_hint(first: u8, number: u8) -> Hint {
-    if number == TOO_MANY {
+    if number == rules::TOO_MANY {
         return hint_phrases::plain(hint_text::what_long(first));
     }
     hint_phrases::plain(hint_phrases::UNKNOWN)
@@ -126,12 +123,12 @@ fn token_hint(
 ) -> Hint {
     let t = hint_around::index_at(toks, place);
     match number {
-        6 => hint_phrases::plain(hint_text::where_end(line, toks.len())),
-        7 => hint_phrases::plain(hint_shape::what_behind(toks, t)),
-        8 => hint_phrases::plain(hint_shape::why_code(toks, t)),
-        9 => hint_shape::why_kind(line, bases, toks, contents, t),
-        10 => hint_phrases::plain(hint_shape::why_name(toks, t)),
-        11 => hint_shape::why_value(toks, t),
+        rules::NO_END => hint_phrases::plain(hint_text::where_end(line, toks.len())),
+        rules::AFTER_END => hint_phrases::plain(hint_shape::what_behind(toks, t)),
+        rules::WRONG_CODE => hint_phrases::plain(hint_shape::why_code(toks, t)),
+        rules::KIND_DIFFERS => hint_shape::why_kind(line, bases, toks, contents, t),
+        rules::WRONG_NAME => hint_phrases::plain(hint_shape::why_name(toks, t)),
+        rules::WRONG_SHAPE => hint_shape::why_value(toks, t),
         _ => unit_hint(bases, toks, contents, number, t),
     }
 }
@@ -142,10 +139,10 @@ fn unit_hint(bases: &[u8], toks: &[u64], contents: &[u8], number: u8, t: usize) 
     let base = hint_around::base(bases, n);
     let word = hint_around::content(toks, contents, t);
     match number {
-        12 => misfit_hint(toks, contents, t, n, base),
-        13 => hint_unit::why_big(word, base),
-        14 => hint_group::why_group(toks, contents, base, t),
-        15 => hint_phrases::plain(hint_size::which_limit(toks, t)),
+        rules::UNREADABLE => misfit_hint(toks, contents, t, n, base),
+        rules::TOO_BIG => hint_unit::why_big(word, base),
+        rules::GROUP_BROKEN => hint_group::why_group(toks, contents, base, t),
+        rules::TOO_MANY => hint_phrases::plain(hint_size::which_limit(toks, t)),
         _ => hint_size::which_size(toks, contents, bases, t),
     }
 }

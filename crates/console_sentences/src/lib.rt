@@ -6,14 +6,8 @@ pub use console_window::point;
 // The key of the phrase that a refusal has whatever the line is.
 const GENERAL: u8 = b'.';
 
-// The refusal whose place is an index of the list of bases.
-const WRONG_BASE: u8 = 1;
 // The last refusal whose place is one in the line, but for NO_KEY and NAME_TWICE: the later ones speak of a buffer, a record or an order.
-const LAST_OF_LINE: u8 = 16;
-
-const NO_KEY: u8 = 20;
-
-const NAME_TWICE: u8 = 21;
+const LAST_OF_LINE: u8 = rules::TOO_MANY_ORDERS;
 
 // Shows a refusal: the line that was refused or, where its bases are at fault, those; a caret under the place, or behind the line if
 // the place is there; number, place and sentence; then what can be told from the line. Answers whether all was written.
@@ -42,10 +36,10 @@ pub fn show_record(fd: i32, line: &[u8], number: u8, place: u32) -> bool {
 
 // Writes what was refused, with a caret where the place is in it.
 fn write_place(fd: i32, line: &[u8], bases: &[u8], number: u8, place: usize) -> bool {
-    if number == WRONG_BASE {
+    if number == rules::WRONG_LETTER {
         return point(fd, bases, place);
     }
-    if number <= LAST_OF_LINE || number == NO_KEY || number == NAME_TWICE {
+    if number <= LAST_OF_LINE || number == rules::NO_KEY || number == rules::NAME_TWICE {
         return point(fd, line, place);
     }
     console_window::write_line(fd, line)

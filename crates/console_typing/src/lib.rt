@@ -9,9 +9,7 @@ use console_lines::One;
 use console_words::Manner;
 use libc::STDERR_FILENO;
 use rules::Keeper;
-
-// The bytes that a keeper carries.
-const MOST: usize = 1024;
+use rules::MOST_TEXT;
 
 // Keys: BS, and what a terminal sends for it; what ends the input on a terminal.
 const BACKSPACE: u8 = 8;
@@ -38,7 +36,7 @@ pub enum Key {
 
 // A keeper that holds nothing.
 pub fn empty() -> Keeper {
-    let bytes = [0u8; MOST];
+    let bytes = [0u8; MOST_TEXT];
     Keeper { bytes, count: 0 }
 }
 

@@ -16,7 +16,7 @@ const ORDERS: u8 = b'o';
 
 // What is one too many at the t-th token.
 pub fn which_limit(toks: &[u64], t: usize) -> u8 {
-    if read_place::MOST_PLACES < hint_around::place_number(toks, t) {
+    if rules::MOST_PLACES < hint_around::place_number(toks, t) {
         return PLACES;
     }
     if hint_around::kind(toks, t) == token_table::COLON {
@@ -28,11 +28,11 @@ pub fn which_limit(toks: &[u64], t: usize) -> u8 {
 // What is too many with the value that begins with the t-th token.
 pub fn which_size(toks: &[u64], contents: &[u8], bases: &[u8], t: usize) -> Hint {
     let own = arguments(toks, contents, bases, t);
-    if read_value::MOST_ARGUMENTS < own {
+    if rules::MOST_ARGUMENTS < own {
         return counted(ARGUMENTS, own);
     }
     let orders = orders(toks, contents, bases, t);
-    if read_command::MOST_ORDERS < orders {
+    if rules::MOST_ORDERS < orders {
         return counted(ORDERS, orders);
     }
     hint_phrases::plain(hint_phrases::UNKNOWN)
@@ -79,7 +79,7 @@ fn arguments(toks: &[u64], contents: &[u8], bases: &[u8], i: usize) -> u64 {
 fn args_of(value: Value) -> u64 {
     match value {
         Value::Elements { count, args } => args,
-        Value::Wrong { no, place } => 1,
+        Value::Refused { no, place } => 1,
     }
 }
 

@@ -47,7 +47,7 @@ const ONE_ORDER: u8 = b'1';
 
 // Why the letter at a place is no base.
 pub fn why_base(bases: &[u8], place: usize) -> Hint {
-    if read_bases::MOST_LETTERS <= place {
+    if rules::MOST_LETTERS <= place {
         return hint_phrases::plain(TOO_MANY_LETTERS);
     }
     if place < bases.len() {

@@ -8,10 +8,11 @@ ghost use Rattle.rules.specs.Keeping.{ready, flag, settled, afterKey};
 ghost use Rattle.keeper.specs.Spots.{opened, turned, isOutside, endsHere};
 use rules::Answer;
 use rules::Keeper;
+use rules::NO_KEY;
 use rules::Pressed;
 
 // The bytes that a keeper carries.
-const MOST: u32 = 1024;
+const MOST: u32 = rules::MOST_TEXT as u32;
 
 // The keys that correct a line.
 const BACKSPACE: u8 = 8;
@@ -20,9 +21,6 @@ const CANCEL: u8 = 24;
 
 // The byte that makes a line ready.
 const END: u8 = b';';
-
-// The refusal of a key.
-const NO_KEY: u8 = 20;
 
 // Where the byte behind a line's bytes would stand: outside string and comment; there, behind a `/`; in a comment; there, behind a `*`;
 // in a string.

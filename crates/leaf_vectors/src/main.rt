@@ -73,7 +73,7 @@ fn tokens_of(line: &[u8])
     let mut contents = [0u8; 128];
     match scan::tokens(line, &classes, &mut toks, &mut contents) {
         Filled::Done { tokens, bytes } => say_tokens(&toks, tokens, &contents),
-        Filled::Refused { number, place } => say_refusal(number, place),
+        Filled::Refused { no, place } => say_refusal(no, place),
     }
 }
 

@@ -1,4 +1,6 @@
 // The list of base letters: 1, and the base of a place.
+use rules::MOST_LETTERS;
+use rules::WRONG_LETTER;
 use token_table::Verdict;
 ghost use mathlib.Core.Path.{_≡_};
 ghost use Rattle.laws.specs.Keys.{anyOf};
@@ -6,11 +8,6 @@ ghost use Rattle.rules.specs.Units.{letter};
 ghost use Rattle.rules.specs.Reading.{readLetters};
 ghost use Rattle.token_table.specs.Table.{verdict};
 ghost use Rattle.read_bases.specs.Bases.{baseLetters, baseIn};
-
-// "a list of base letters, at most 32"
-pub const MOST_LETTERS: usize = 32;
-// 1: wrong base letter, or a 33rd.
-const WRONG_LETTER: u8 = 1;
 
 // Is this byte the letter of a base?
 fn is_letter(b: u8) -> bool

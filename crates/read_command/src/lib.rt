@@ -3,6 +3,14 @@ use marks;
 use read_pieces;
 use read_place;
 use read_place::PlaceRead;
+use rules::AFTER_END;
+use rules::MORE_OF_CODE;
+use rules::MOST_BLOCKS;
+use rules::MOST_ORDERS;
+use rules::NO_END;
+use rules::TOO_MANY;
+use rules::TOO_MANY_ORDERS;
+use rules::WRONG_CODE;
 use token_table;
 use token_table::Verdict;
 ghost use Prim.Native.Nat.{_≤_, _<_};
@@ -17,25 +25,8 @@ ghost use Rattle.read_bases.specs.Bases.{basesIn};
 ghost use Rattle.token_table.specs.Parts.{partsFrom};
 ghost use Rattle.read_command.specs.Blocks.{counted, opened, HasKind, placesRead, blockRead, blocksRead, tallyRead, commandRead};
 
-// "Code: 1 to 3 identifiers": so many behind the first.
-const MORE_OF_CODE: usize = 2;
-// "9th block"
-const MOST_BLOCKS: usize = 8;
-// "the orders pass 65,535"
-pub const MOST_ORDERS: u64 = 65535;
 // The bytes of a block's own field: tag, length, kind.
 const BLOCK_FIELD: u64 = 4;
-
-// 6: no `;` token.
-const NO_END: u8 = 6;
-// 7: a token after the first `;`.
-const AFTER_END: u8 = 7;
-// 8: code wrong.
-const WRONG_CODE: u8 = 8;
-// 15: one too many.
-const TOO_MANY: u8 = 15;
-// 16: too many orders.
-const TOO_MANY_ORDERS: u8 = 16;
 
 // What the places so far come to: their number, the bytes of the fields, the product of their numbers of arguments, whether the next one
 // would have passed the limit, and the place of the first value where it did.

@@ -26,7 +26,7 @@ use Rattle.read_joins.specs.declared.Shape.the-variants.{Refused}
 use Rattle.read_elements.specs.Walk.{stepOf, valueAnswer}
 use Rattle.read_elements.specs.declared.Step.{Step}
 use Rattle.read_elements.specs.declared.Value.{Value}
-use Rattle.read_elements.specs.declared.Value.the-variants.{Elements, Wrong}
+use Rattle.read_elements.specs.declared.Value.the-variants.{Elements, Refused as RefusedValue}
 use Rattle.read_joins.proofs.JoinLaws.{joins-length, kind-is, sep-place-is, group-end, group-more, groups-next, begins-next, dash-inside, dash-end, full-at, units-length}
 use Rattle.read_elements.proofs.KeepLaws.{Keeps, upper-keeps}
 use Rattle.read_elements.proofs.ElementLaws.{inner-sep}
@@ -161,7 +161,7 @@ module _ (js : List (Join Unit)) (l : List Unit) (k n : ℕ) {x : Shape} {s : St
 -- the answer where c elements of a arguments come before
 abbrev moreAnswer : ℕ → ℕ → Res (List Element) → Value
 moreAnswer c a (ok es) = Elements (c + length es) (a + sum (map terms es))
-moreAnswer c a (bad k p) = Wrong k p
+moreAnswer c a (bad k p) = RefusedValue k p
 
 more-none : (r : Res (List Element)) → valueAnswer r ≡ moreAnswer 0 0 r
 more-none (ok es) = ap₂ Elements (omega arith) (omega arith)
@@ -199,7 +199,7 @@ module _ (b : ℕ) (cs ts : List ℕ) where
         small = omega arith;
       }
 
-  pub walking-long : {q p : ℕ} → ArgEnd ts 1 q → 3 < q - 1 → p ≡ sepPlace ts 4 → Wrong groupBroken p ≡ valueAnswer (elements (groupsOf (collect (joinsIn b cs ts))))
+  pub walking-long : {q p : ℕ} → ArgEnd ts 1 q → 3 < q - 1 → p ≡ sepPlace ts 4 → RefusedValue groupBroken p ≡ valueAnswer (elements (groupsOf (collect (joinsIn b cs ts))))
   walking-long a h v = rw (elements-long b cs ts (omega (arith, a b cs)), v)
 
 module _ (b : ℕ) (cs ts : List ℕ) {k n c a : ℕ} (w : Walking (joinsIn b cs ts) k n c a) where
@@ -211,11 +211,11 @@ module _ (b : ℕ) (cs ts : List ℕ) {k n c a : ℕ} (w : Walking (joinsIn b cs
   here : {m : ℕ} → m ≡ count ts → n < m → groupsAt (joinsIn b cs ts) n ≡ groupAt (joinsIn b cs ts) n ∷ groupsAt (joinsIn b cs ts) (n + 1)
   here e h = group-more (joinsIn b cs ts) n (omega (arith, joins-length b cs ts)) (w .starts)
 
-  pub walking-many : {m p : ℕ} → m ≡ count ts → n < m → 64 ≤ c → p ≡ sepPlace ts n → Wrong tooMany p ≡ valueAnswer (elements (groupsOf (collect (joinsIn b cs ts))))
+  pub walking-many : {m p : ℕ} → m ≡ count ts → n < m → 64 ≤ c → p ≡ sepPlace ts n → RefusedValue tooMany p ≡ valueAnswer (elements (groupsOf (collect (joinsIn b cs ts))))
   walking-many e h f v = sym (w .is ∙ rw (here e h, lt-leb (suc c) 64 (omega arith), laterElements, sep-place-is b cs ts n, v))
 
   module _ {m : ℕ} {x : Shape} {s : Step} (e : m ≡ count ts) (h : n < m) (y : Later (joinsIn b cs ts) k n x) (q : s ≡ stepOf x) where
-    pub walking-bad : c < 64 → s .ok ≡ false → Wrong (s .no) (s .place) ≡ valueAnswer (elements (groupsOf (collect (joinsIn b cs ts))))
+    pub walking-bad : c < 64 → s .ok ≡ false → RefusedValue (s .no) (s .place) ≡ valueAnswer (elements (groupsOf (collect (joinsIn b cs ts))))
     walking-bad f o =
         sym (w .is ∙ rw (here e h, le-leb (suc c) 64 (omega arith), laterElements, missed (joinsIn b cs ts) (w .l) k n (w .long) y q o))
 

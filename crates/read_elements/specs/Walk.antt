@@ -8,7 +8,7 @@ use Rattle.read_joins.specs.declared.Shape.{Shape}
 use Rattle.read_joins.specs.declared.Shape.the-variants.{Single, Range, Refused}
 use Rattle.read_elements.specs.declared.Step.{Step}
 use Rattle.read_elements.specs.declared.Value.{Value}
-use Rattle.read_elements.specs.declared.Value.the-variants.{Elements, Wrong}
+use Rattle.read_elements.specs.declared.Value.the-variants.{Elements, Refused as RefusedValue}
 
 -- an element as a step of the walk
 abbrev pub stepOf : Shape → Step
@@ -19,4 +19,4 @@ stepOf (Refused k p) = record { ok = false; no = k; place = p; next = 0; more = 
 -- the elements as an answer: how many there are, and how many arguments they have
 abbrev pub valueAnswer : Res (List Element) → Value
 valueAnswer (ok es) = Elements (length es) (sum (map terms es))
-valueAnswer (bad k p) = Wrong k p
+valueAnswer (bad k p) = RefusedValue k p

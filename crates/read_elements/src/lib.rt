@@ -2,6 +2,11 @@
 use read_joins;
 use read_joins::Ends;
 use read_joins::Shape;
+use rules::GROUP_BROKEN;
+use rules::MOST_ELEMENTS;
+use rules::MOST_LEADING;
+use rules::TOO_MANY;
+use token_table;
 ghost use mathlib.Core.Path.{_≡_};
 ghost use mathlib.Core.Bool.{false, cond};
 ghost use Prim.Native.Nat.{_≤_, _<_};
@@ -10,14 +15,6 @@ ghost use Rattle.rules.specs.Tokens.{sepCode, ampamp, ampamp-, plusplus};
 ghost use Rattle.read_joins.specs.Joins.{joinsIn, count, sepKind, beginsKind};
 ghost use Rattle.read_elements.specs.Shapes.{Increment, Ordered, Ranged, Upper, Later, LastEnd, brokenPlace};
 ghost use Rattle.read_elements.specs.Walk.{stepOf, valueAnswer};
-
-// A compound argument has at most 4 units: so many before the last.
-const MOST_LEADING: usize = 3;
-
-// 15: a 65th element.
-const MOST_ELEMENTS: usize = 64;
-
-const TOO_MANY: u8 = 15;
 
 // An element as a step of the walk: no refusal, or its number and place; the unit that begins the next element; the terms behind its first.
 pub struct Step {
@@ -31,7 +28,7 @@ pub struct Step {
 // A value's numbers of elements and of arguments, or what is wrong with it.
 pub enum Value {
     Elements { count: usize, args: u64 },
-    Wrong { no: u8, place: u32 },
+    Refused { no: u8, place: u32 },
 }
 
 // The increment, unit `at`, behind `++`.
@@ -50,7 +47,7 @@ fn stepped(
     let inc = read_joins::step_end(size, read_joins::end_of(toks, contents, base, at));
     if inc == 0 {
         return Shape::Refused {
-            no: read_joins::GROUP_BROKEN,
+            no: GROUP_BROKEN,
             place: read_joins::unit_place(toks, at),
         };
     }
@@ -79,11 +76,11 @@ fn increment(
             next: n,
         };
     }
-    if kind == read_joins::PLUSPLUS {
+    if kind == token_table::PLUS_PLUS {
         return stepped(toks, contents, base, n, size, lower, upper);
     }
     Shape::Refused {
-        no: read_joins::GROUP_BROKEN,
+        no: GROUP_BROKEN,
         place: read_joins::sep_place(toks, n),
     }
 }
@@ -105,7 +102,7 @@ fn ordered(
         return increment(toks, contents, base, at + 1, size, lower, upper);
     }
     Shape::Refused {
-        no: read_joins::GROUP_BROKEN,
+        no: GROUP_BROKEN,
         place: read_joins::unit_place(toks, at),
     }
 }
@@ -121,7 +118,7 @@ fn ranged(toks: &[u64], contents: &[u8], base: u8, n: usize) -> Shape
     ) {
         Ends::Both { size, lower, upper } => ordered(toks, contents, base, n, size, lower, upper),
         Ends::Apart => Shape::Refused {
-            no: read_joins::GROUP_BROKEN,
+            no: GROUP_BROKEN,
             place: read_joins::sep_place(toks, n),
         },
     }
@@ -132,9 +129,9 @@ fn range_kind(simple: bool) -> u8
     ensures { λ r. ⌜ r ≡ cond simple (sepCode ampamp) (sepCode ampamp-) ⌝ }
 {
     if simple {
-        return read_joins::AMPAMP;
+        return token_table::AMP_AMP;
     }
-    read_joins::AMPAMP_DASH
+    token_table::AMP_AMP_DASH
 }
 
 // What follows an argument whose last unit is before the n-th.
@@ -149,7 +146,7 @@ fn upper_end(toks: &[u64], contents: &[u8], base: u8, n: usize, simple: bool) ->
         return ranged(toks, contents, base, n);
     }
     Shape::Refused {
-        no: read_joins::GROUP_BROKEN,
+        no: GROUP_BROKEN,
         place: read_joins::sep_place(toks, n),
     }
 }
@@ -159,7 +156,7 @@ fn last_end(toks: &[u64], n: usize, leads: usize) -> usize
     requires { ⌜ n < count (now toks) ⌝ }
     ensures { λ r. ⌜ LastEnd (now (toks .entry)) leads n r ⌝ }
 {
-    if read_joins::sep_kind(toks, n) == read_joins::AMP_DASH {
+    if read_joins::sep_kind(toks, n) == token_table::AMP_DASH {
         if leads == 0 {
             return 0;
         }
@@ -176,7 +173,7 @@ fn last_end(toks: &[u64], n: usize, leads: usize) -> usize
 fn broken_place(toks: &[u64], n: usize) -> u32
     ensures { λ r. ⌜ r ≡ brokenPlace (now (toks .entry)) n ⌝ }
 {
-    if read_joins::sep_kind(toks, n) == read_joins::AMP_DASH {
+    if read_joins::sep_kind(toks, n) == token_table::AMP_DASH {
         return read_joins::sep_place(toks, n);
     }
     read_joins::unit_place(toks, n)
@@ -190,7 +187,7 @@ pub fn later(toks: &[u64], contents: &[u8], base: u8, n: usize, leads: usize) ->
     let k = last_end(toks, n, leads);
     if k == 0 {
         return Shape::Refused {
-            no: read_joins::GROUP_BROKEN,
+            no: GROUP_BROKEN,
             place: broken_place(toks, n),
         };
     }
@@ -237,8 +234,8 @@ fn all_elements(toks: &[u64], contents: &[u8], base: u8) -> Value
 {
     let leads = read_joins::arg_end(toks, 1) - 1;
     if MOST_LEADING < leads {
-        return Value::Wrong {
-            no: read_joins::GROUP_BROKEN,
+        return Value::Refused {
+            no: GROUP_BROKEN,
             place: read_joins::sep_place(toks, MOST_LEADING + 1),
         };
     }
@@ -247,7 +244,7 @@ fn all_elements(toks: &[u64], contents: &[u8], base: u8) -> Value
     let mut args: u64 = 0;
     while n < read_joins::count(toks) {
         if MOST_ELEMENTS <= c {
-            return Value::Wrong {
+            return Value::Refused {
                 no: TOO_MANY,
                 place: read_joins::sep_place(toks, n),
             };
@@ -258,7 +255,7 @@ fn all_elements(toks: &[u64], contents: &[u8], base: u8) -> Value
             c += 1;
             args += s.more as u64 + 1;
         } else {
-            return Value::Wrong {
+            return Value::Refused {
                 no: s.no,
                 place: s.place,
             };

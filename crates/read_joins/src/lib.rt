@@ -1,4 +1,5 @@
 // A value's part of the token table, unit by unit: the n-th unit is token 2n, the separator before it is token 2n - 1.
+use rules::GROUP_BROKEN;
 use token_table;
 use units;
 use units::Word;
@@ -6,20 +7,6 @@ ghost use mathlib.Core.Path.{_≡_};
 ghost use Prim.Native.Nat.{_≤_};
 ghost use Rattle.read_joins.specs.Joins.{joinsIn, joinKind, count as countOf, sepKind, sepPlace, unitPlace, beginsKind};
 ghost use Rattle.read_joins.specs.Answers.{unitEnd, endAt, withLower, bothEnds, stepEnd, ArgEnd, NoMore};
-
-// The kinds of the separators that join units, in the table's order; the last of them is token_table::DASH.
-pub const AMPAMP_DASH: u8 = 0;
-
-pub const AMPAMP: u8 = 1;
-
-pub const AMP_DASH: u8 = 2;
-
-pub const AMP: u8 = 3;
-
-pub const PLUSPLUS: u8 = 4;
-
-// 14: a group rule is broken.
-pub const GROUP_BROKEN: u8 = 14;
 
 // A unit as the end of a range: a numeral without fraction, by how many digits its base has and its value.
 pub enum End {
@@ -64,7 +51,7 @@ fn join_kind(kind: u8) -> u8
     if kind <= token_table::DASH {
         return kind;
     }
-    AMP
+    token_table::AMP
 }
 
 // The kind of the separator before the n-th unit; before the first and past the last an `&`.
@@ -72,12 +59,12 @@ pub fn sep_kind(toks: &[u64], n: usize) -> u8
     ensures { λ r. ⌜ r ≡ sepKind (now (toks .entry)) n ⌝ }
 {
     if n == 0 {
-        return AMP;
+        return token_table::AMP;
     }
     if n < count(toks) {
         return join_kind(token_table::kind(toks[n + n - 1]));
     }
-    AMP
+    token_table::AMP
 }
 
 // The place of the separator before the n-th unit.
@@ -107,7 +94,7 @@ pub fn unit_place(toks: &[u64], n: usize) -> u32
 pub fn begins(kind: u8) -> bool
     ensures { λ r. ⌜ r ≡ beginsKind kind ⌝ }
 {
-    kind == AMP || kind == AMP_DASH
+    kind == token_table::AMP || kind == token_table::AMP_DASH
 }
 
 // A word as the end of a range.

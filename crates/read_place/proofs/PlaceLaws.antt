@@ -30,7 +30,7 @@ use Rattle.read_names.specs.Names.{nameKey, nameIn, Known, IsTwice}
 use Rattle.read_pieces.specs.Pieces.{piecesAt}
 use Rattle.read_elements.specs.Walk.{valueAnswer}
 use Rattle.read_elements.specs.declared.Value.{Value}
-use Rattle.read_elements.specs.declared.Value.the-variants.{Elements, Wrong as WrongValue}
+use Rattle.read_elements.specs.declared.Value.the-variants.{Elements, Refused as RefusedValue}
 use Rattle.read_value.specs.Passes.{Faultless}
 use Rattle.value_fields.specs.Measure.{ValueLen}
 use Rattle.value_fields.proofs.BytesLaws.{bytes-append}
@@ -89,15 +89,15 @@ has-read ts cs b e k a q g =
 pub faultless : (ts cs : List ℕ) (b : Base) (e a l : ℕ) → HasRead ts cs b e a → l ≡ letter b → Faultless ts cs l
 faultless ts cs b e a l h g = record { base = b; own = g; end = e; es = h .v; is = h .is }
 
-pub value-wrong : (ts cs : List ℕ) (b : Base) (h g e n p : ℕ) {r : Value} → r ≡ valueAnswer (readValue b (tokensIn cs ts) e) → r ≡ WrongValue n p
+pub value-wrong : (ts cs : List ℕ) (b : Base) (h g e n p : ℕ) {r : Value} → r ≡ valueAnswer (readValue b (tokensIn cs ts) e) → r ≡ RefusedValue n p
     → Refused n p ≡ valueRead h g (placeOr ts e) (readValue b (tokensIn cs ts) e)
 value-wrong ts cs b h k e n p q g =
     byRes (readValue b (tokensIn cs ts) e)
     (λ v y.
-    let w : WrongValue n p ≡ valueAnswer (ok v) = sym g ∙ q ∙ ap valueAnswer y in
+    let w : RefusedValue n p ≡ valueAnswer (ok v) = sym g ∙ q ∙ ap valueAnswer y in
     let z : _≡_ {A = ℕ} 0 1 = cc in absurd (omega arith))
     (λ m o y.
-    let w : WrongValue n p ≡ WrongValue m o = sym g ∙ q ∙ ap valueAnswer y in
+    let w : RefusedValue n p ≡ RefusedValue m o = sym g ∙ q ∙ ap valueAnswer y in
     let i : n ≡ m = cc in let j : p ≡ o = cc in
     rw (y, i, j))
 

@@ -5,6 +5,12 @@ use read_elements::Value;
 use read_names;
 use read_pieces;
 use read_value;
+use rules::KIND_DIFFERS;
+use rules::MORE_OF_NAME;
+use rules::MOST_PLACES;
+use rules::NAME_TWICE;
+use rules::TOO_MANY;
+use rules::WRONG_NAME;
 use token_table;
 use token_table::Verdict;
 use value_fields;
@@ -19,23 +25,10 @@ ghost use Rattle.read_bases.specs.Bases.{basesIn, baseIn};
 ghost use Rattle.token_table.specs.Parts.{placeOr};
 ghost use Rattle.read_place.specs.Places.{valueRead, placeRead, Sized, ReadsNamed, ReadsPlace};
 
-// "33rd place of the command"
-pub const MOST_PLACES: usize = 32;
-// "A name is 1 to 4 pieces": so many behind the first.
-const MORE_OF_NAME: usize = 3;
 // The bytes of a place's own field: tag, length, letter.
 const PLACE_FIELD: u32 = 4;
 // The key of a place that has no name.
 const NO_NAME: u32 = 0;
-
-// 9: kind differs.
-const KIND_DIFFERS: u8 = 9;
-// 10: name wrong.
-const WRONG_NAME: u8 = 10;
-// 15: one too many.
-const TOO_MANY: u8 = 15;
-// 21: the name stands already in its block.
-const NAME_TWICE: u8 = 21;
 
 // A place that is right: its number of arguments, the place of its value's first token, the bytes of its fields, the key of its name. Or a refusal.
 pub enum PlaceRead {
@@ -75,7 +68,7 @@ fn value(
 {
     let base = read_bases::base(bases, n);
     match read_value::read_value(toks, contents, base, end) {
-        Value::Wrong { no, place } => PlaceRead::Refused { no, place },
+        Value::Refused { no, place } => PlaceRead::Refused { no, place },
         Value::Elements { count, args } => PlaceRead::Fine {
             args: args as u32,
             at: token_table::place(toks[0]),

@@ -27,7 +27,7 @@ use Rattle.token_table.proofs.PartLaws.{content-part}
 use Rattle.read_joins.specs.Joins.{orText, unitIn, joinSep, joined, joinsIn}
 use Rattle.read_elements.specs.Walk.{valueAnswer}
 use Rattle.read_elements.specs.declared.Value.{Value}
-use Rattle.read_elements.specs.declared.Value.the-variants.{Wrong}
+use Rattle.read_elements.specs.declared.Value.the-variants.{Refused as RefusedValue}
 use Rattle.read_value.specs.Passes.{wordVerdict, unitVerdict, orNext, unitsVerdict, limited, groupedAnswer, Reads}
 
 -- ---- one unit
@@ -184,7 +184,7 @@ pub some-token : (ts : List ℕ) (e : ℕ) → Alternates ts e Fine → 0 < leng
 some-token [] e a = let z = a [] in let o : _≡_ {A = ℕ} 0 1 = cc in absurd (omega arith)
 some-token (t ∷ ts) e a = omega arith
 
-pub read-refused : (ts cs : List ℕ) (l e n p : ℕ) {v : Verdict} → Alternates ts e v → v ≡ Refused n p → Reads ts cs l e (Wrong n p)
+pub read-refused : (ts cs : List ℕ) (l e n p : ℕ) {v : Verdict} → Alternates ts e v → v ≡ Refused n p → Reads ts cs l e (RefusedValue n p)
 read-refused ts cs l e n p a h b m = rw (verdict-bad (alternate (unitAfter amp 0) (tokensIn cs ts) e) n p (sym (a cs) ∙ h))
 
 pub read-fine : (ts cs : List ℕ) (l e : ℕ) {v : Verdict} {r : Value} → Alternates ts e v → v ≡ Fine → r ≡ groupedAnswer l cs ts → Reads ts cs l e r

@@ -18,7 +18,7 @@ use Rattle.token_table.specs.declared.Verdict.{Verdict}
 use Rattle.token_table.specs.declared.Verdict.the-variants.{Fine, Refused}
 use Rattle.read_elements.specs.Walk.{valueAnswer}
 use Rattle.read_elements.specs.declared.Value.{Value}
-use Rattle.read_elements.specs.declared.Value.the-variants.{Elements, Wrong}
+use Rattle.read_elements.specs.declared.Value.the-variants.{Elements, Refused as RefusedValue}
 
 -- 12 and 13 for a word, for a token, and for all tokens of a value: where units and separators alternate the words are units
 abbrev pub wordVerdict : ℕ → Word → Verdict
@@ -43,12 +43,12 @@ unitsVerdict b cs (t ∷ ts) = orNext (unitVerdict b cs t) (unitsVerdict b cs ts
 
 abbrev pub onVerdict : Verdict → Value → Value
 onVerdict Fine v = v
-onVerdict (Refused n p) v = Wrong n p
+onVerdict (Refused n p) v = RefusedValue n p
 
 -- 16, at the value's first token
 abbrev pub limited : ℕ → Value → Value
-limited p (Elements c a) = cond (leb a mostArguments) (Elements c a) (Wrong tooManyOrders p)
-limited p (Wrong k q) = Wrong k q
+limited p (Elements c a) = cond (leb a mostArguments) (Elements c a) (RefusedValue tooManyOrders p)
+limited p (RefusedValue k q) = RefusedValue k q
 
 -- 12 to 16
 unfoldable pub groupedAnswer : ℕ → List ℕ → List ℕ → Value

@@ -1,6 +1,10 @@
 // A value, in passes: 11, then 12 and 13, then 14 with 15, then 16.
 use read_elements;
 use read_elements::Value;
+use rules::MOST_ARGUMENTS;
+use rules::TOO_BIG;
+use rules::TOO_MANY_ORDERS;
+use rules::UNREADABLE;
 use token_table;
 use token_table::Verdict;
 use units;
@@ -9,15 +13,6 @@ ghost use mathlib.Core.Path.{_≡_};
 ghost use Prim.Native.Nat.{_<_};
 ghost use lib.ListN.{length};
 ghost use Rattle.read_value.specs.Passes.{wordVerdict, unitVerdict, unitsVerdict, limited, groupedAnswer, Reads};
-
-// 12: a unit cannot be read. 13: a numeral is too big. 16: over 4,096 arguments.
-const UNREADABLE: u8 = 12;
-
-const TOO_BIG: u8 = 13;
-
-const TOO_MANY_ORDERS: u8 = 16;
-
-pub const MOST_ARGUMENTS: u64 = 4096;
 
 // 12 and 13 for a word.
 fn word_verdict(u: Word, place: u32) -> Verdict
@@ -80,12 +75,12 @@ fn limit(v: Value, place: u32) -> Value
                     args: args,
                 };
             }
-            Value::Wrong {
+            Value::Refused {
                 no: TOO_MANY_ORDERS,
                 place: place,
             }
         }
-        Value::Wrong { no, place: at } => Value::Wrong { no: no, place: at },
+        Value::Refused { no, place: at } => Value::Refused { no: no, place: at },
     }
 }
 
@@ -95,7 +90,7 @@ fn grouped(toks: &[u64], contents: &[u8], base: u8) -> Value
     ensures { λ r. ⌜ r ≡ groupedAnswer base (now (contents .entry)) (now (toks .entry)) ⌝ }
 {
     match readable(toks, contents, base) {
-        Verdict::Refused { no, place } => Value::Wrong {
+        Verdict::Refused { no, place } => Value::Refused {
             no: no,
             place: place,
         },
@@ -111,7 +106,7 @@ pub fn read_value(toks: &[u64], contents: &[u8], base: u8, end: u32) -> Value
     ensures { λ r. ⌜ Reads (now (toks .entry)) (now (contents .entry)) base end r ⌝ }
 {
     match token_table::alternates(toks, end) {
-        Verdict::Refused { no, place } => Value::Wrong {
+        Verdict::Refused { no, place } => Value::Refused {
             no: no,
             place: place,
         },

@@ -5,6 +5,9 @@ use read_bases;
 use read_command;
 use read_command::Checked;
 use rules::Answer;
+use rules::MOST_TEXT;
+use rules::NO_ROOM;
+use rules::TOO_LONG;
 use scan;
 use scan::Filled;
 use token_table::Verdict;
@@ -21,13 +24,6 @@ ghost use Rattle.reader.specs.Reader.{TokensOf, Records, RecordsText};
 const SHORT: usize = 128;
 // Texts of at most so many bytes are read through middle tables.
 const MIDDLE: usize = 512;
-// "over 1,024 bytes"
-const MOST_TEXT: usize = 1024;
-
-// 2: text too long.
-const TOO_LONG: u8 = 2;
-// 17: buffer too short.
-const NO_ROOM: u8 = 17;
 
 // The tokens of a text of `len` bytes into its record: 6 to 17.
 fn put_record(toks: &[u64], contents: &[u8], bases: &[u8], len: u32, out: &mut [u8]) -> Answer
@@ -73,7 +69,7 @@ fn with_tables(
     ensures { λ r. ⌜ RecordsText (now (text .entry)) (now (bases .entry)) (now (out .entry)) r (now (out .exit)) ⌝ }
 {
     match scan::tokens(text, classes, toks, contents) {
-        Filled::Refused { number, place } => Answer::Refused(number, place as u32),
+        Filled::Refused { no, place } => Answer::Refused(no, place as u32),
         Filled::Done { tokens, bytes } => put_filled(
             toks,
             tokens,

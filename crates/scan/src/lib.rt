@@ -3,6 +3,15 @@
 // text (2, 3, then what the cursor finds), as a table of tokens with their contents one behind the other.
 use chars::Off;
 use chars::class;
+use rules::MOST_PREFIXED;
+use rules::MOST_STRING;
+use rules::MOST_TEXT;
+use rules::MOST_WORD;
+use rules::NO_TOKEN;
+use rules::NOT_PERMITTED;
+use rules::TOO_LONG;
+use rules::TOO_MANY;
+use rules::UNCLOSED;
 ghost use mathlib.Core.Path.{_≡_};
 ghost use Prim.Native.Nat.{ℕ, _+_, _<_, _≤_};
 ghost use lib.ListN.{length, getD};
@@ -14,27 +23,6 @@ ghost use Rattle.rules.specs.Tokens.{idle, inWord, run, scan};
 ghost use Rattle.scan.specs.Scanned.{IsScanned, IsSep};
 ghost use Rattle.rules.specs.Refusals.{mostText};
 ghost use Rattle.scan.specs.Filled.{IsFilled};
-
-// So many bytes a text has at most.
-pub const MOST_TEXT: usize = 1024;
-// 2: the text has more.
-const TOO_LONG: u8 = 2;
-// 3: a byte is not permitted.
-const NOT_PERMITTED: u8 = 3;
-
-// 4: a string or a comment is not closed.
-pub const UNCLOSED: u8 = 4;
-// 5: a byte begins no token.
-pub const NO_TOKEN: u8 = 5;
-
-// 15: a word or a string is too long.
-const TOO_MANY: u8 = 15;
-// So many bytes a word has at most,
-const MOST_WORD: usize = 32;
-// a word whose second byte is `'`,
-const MOST_PREFIXED: usize = 34;
-// a string's content.
-const MOST_STRING: usize = 80;
 
 // The byte at a place, and 0 behind the end.
 pub fn byte(text: &[u8], at: usize) -> u8
@@ -193,7 +181,7 @@ pub fn ampersand(text: &[u8], classes: &[u8; 128], from: usize) -> AmpEnd
 pub enum Gap {
     Start { at: usize, class: u8 },
     End,
-    Refused { number: u8, place: usize },
+    Refused { no: u8, place: usize },
 }
 
 // The first place from `from` on that holds neither a format effector nor a comment.
@@ -210,14 +198,14 @@ pub fn begin(text: &[u8], classes: &[u8; 128], from: usize) -> Gap
             if byte(text, i + 1) == b'*' {
                 let CommentEnd::At(e) = comment(text, i + 2) else {
                     return Gap::Refused {
-                        number: UNCLOSED,
+                        no: UNCLOSED,
                         place: i,
                     };
                 };
                 i = e;
             } else {
                 return Gap::Refused {
-                    number: NO_TOKEN,
+                    no: NO_TOKEN,
                     place: i,
                 };
             }
@@ -243,7 +231,7 @@ pub enum Scanned {
     },
     End,
     Refused {
-        number: u8,
+        no: u8,
         place: usize,
     },
 }
@@ -280,7 +268,7 @@ fn word_token(
         }
     }
     Scanned::Refused {
-        number: TOO_MANY,
+        no: TOO_MANY,
         place,
     }
 }
@@ -318,13 +306,13 @@ fn string_token(text: &[u8], place: usize, out: &mut [u8]) -> Scanned
                 };
             }
             Scanned::Refused {
-                number: TOO_MANY,
+                no: TOO_MANY,
                 place,
             }
         }
         StringEnd::Open => {
-            let number = UNCLOSED;
-            Scanned::Refused { number, place }
+            let no = UNCLOSED;
+            Scanned::Refused { no, place }
         }
     }
 }
@@ -357,7 +345,7 @@ fn token(text: &[u8], classes: &[u8; 128], place: usize, class: u8, out: &mut [u
         }
         if class == chars::OTHER {
             return Scanned::Refused {
-                number: NO_TOKEN,
+                no: NO_TOKEN,
                 place,
             };
         }
@@ -375,7 +363,7 @@ fn token(text: &[u8], classes: &[u8; 128], place: usize, class: u8, out: &mut [u
         return plus_token(text, classes, place, out);
     }
     Scanned::Refused {
-        number: NO_TOKEN,
+        no: NO_TOKEN,
         place,
     }
 }
@@ -389,7 +377,7 @@ impl Cursor {
         match begin(text, classes, self.at) {
             Gap::Start { at, class } => token(text, classes, at, class, out),
             Gap::End => Scanned::End,
-            Gap::Refused { number, place } => Scanned::Refused { number, place },
+            Gap::Refused { no, place } => Scanned::Refused { no, place },
         }
     }
 }
@@ -397,7 +385,7 @@ impl Cursor {
 // How many tokens the table holds, and how many bytes their contents take; or a refusal.
 pub enum Filled {
     Done { tokens: usize, bytes: usize },
-    Refused { number: u8, place: usize },
+    Refused { no: u8, place: usize },
 }
 
 // 4, 5 and 15: the tokens of a text into the table and the contents. Where the text is refused both are left with parts of it.
@@ -427,8 +415,8 @@ fn fill(text: &[u8], classes: &[u8; 128], toks: &mut [u64], contents: &mut [u8])
                     bytes: k,
                 };
             }
-            Scanned::Refused { number, place } => {
-                return Filled::Refused { number, place };
+            Scanned::Refused { no, place } => {
+                return Filled::Refused { no, place };
             }
         }
     }
@@ -441,13 +429,13 @@ pub fn tokens(text: &[u8], classes: &[u8; 128], toks: &mut [u64], contents: &mut
 {
     if MOST_TEXT < text.len() {
         return Filled::Refused {
-            number: TOO_LONG,
+            no: TOO_LONG,
             place: MOST_TEXT,
         };
     }
     match chars::first_off(text, classes) {
         Off::At(place) => Filled::Refused {
-            number: NOT_PERMITTED,
+            no: NOT_PERMITTED,
             place,
         },
         Off::Nowhere => fill(text, classes, toks, contents),

@@ -1,5 +1,6 @@
 // The token table: a token is one number that holds its kind, its place in the text, and where its content starts in the contents and its
 // length; the tokens up to a separator, and the words of a code or of a name.
+use rules::WRONG_SHAPE;
 ghost use Prim.Native.Nat.{ℕ, _<_, _+_};
 ghost use mathlib.Core.Path.{_≡_};
 ghost use Rattle.token_table.specs.Table.{kindIn, placeIn, startIn, endIn, packed, fitsKind, Alternates, contentIn};
@@ -45,9 +46,6 @@ const PART: u64 = 65536;
 const MOST: u64 = 4294967295;
 // The bytes of a field before its content: tag and length.
 const HEAD: u64 = 3;
-
-// 11: units and joining separators do not alternate.
-const WRONG_SHAPE: u8 = 11;
 
 // Nothing wrong, or a refusal's number and place.
 pub enum Verdict {

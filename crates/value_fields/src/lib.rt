@@ -104,7 +104,7 @@ fn element_len(
 pub fn front_of(kind: u8, before: usize, n: usize) -> usize
     ensures { λ r. ⌜ r ≡ cond (eqb kind (sepCode amp-)) before n ⌝ }
 {
-    if kind == read_joins::AMP_DASH {
+    if kind == token_table::AMP_DASH {
         return before;
     }
     n
@@ -115,7 +115,7 @@ pub fn last_of(kind: u8, n: usize, leads: usize) -> usize
     requires { ⌜ n + leads < 18446744073709551616 ⌝ }
     ensures { λ r. ⌜ r ≡ cond (eqb kind (sepCode amp-)) n (n + leads) ⌝ }
 {
-    if kind == read_joins::AMP_DASH {
+    if kind == token_table::AMP_DASH {
         return n;
     }
     n + leads

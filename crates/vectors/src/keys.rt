@@ -4,12 +4,10 @@ use console_figures::front;
 use libc::STDOUT_FILENO;
 use rules::Answer;
 use rules::Keeper;
+use rules::MOST_TEXT;
 
 // The most keys of a line that is run whole.
 const MOST_KEYS: usize = 2048;
-
-// The bytes that a keeper carries.
-const MOST_HELD: usize = 1024;
 
 // The value of the answer to a key that makes the line ready.
 const READY: u32 = 1;
@@ -34,7 +32,7 @@ pub fn run(digits: &[u8]) {
 
 // Takes one key after the other.
 fn press_all(keys: &[u8]) -> Left {
-    let bytes = [0u8; MOST_HELD];
+    let bytes = [0u8; MOST_TEXT];
     let mut left = Left {
         keeper: Keeper { bytes, count: 0 },
         ready: false,

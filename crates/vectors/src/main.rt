@@ -9,14 +9,11 @@ use console_lines::BLOCK;
 use console_lines::Got;
 use libc::STDOUT_FILENO;
 use rules::Answer;
+use rules::MOST_PLACES;
+use rules::MOST_TEXT;
 
 // The longest line of the input that is run whole.
 const LONGEST_LINE: usize = 4096;
-
-// The limits of a command.
-const LONGEST_TEXT: usize = 1024;
-
-const MOST_PLACES: usize = 32;
 
 // So many orders of a record are all written.
 const FEW: u64 = 8;
@@ -124,7 +121,7 @@ fn write_refusal(number: u8, place: u32) {
 fn write_record(record: &[u8]) {
     console_lines::write_hex(STDOUT_FILENO, record);
     io::write_all(STDOUT_FILENO, b" | ");
-    let mut text = [0u8; LONGEST_TEXT];
+    let mut text = [0u8; MOST_TEXT];
     match mml::print(record, &mut text) {
         Answer::Done(n) => write_text(record, front(&text, n as usize)),
         Answer::Refused(number, place) => write_refusal(number, place),
@@ -211,7 +208,7 @@ fn write_all(record: &[u8], count: u64) {
 fn write_order(record: &[u8], k: u64) {
     io::write_all(STDOUT_FILENO, b" | ");
     let mut order = io::large_buffer();
-    let mut text = [0u8; LONGEST_TEXT];
+    let mut text = [0u8; MOST_TEXT];
     match order_text(record, k, &mut order, &mut text) {
         Answer::Done(n) => {
             io::write_all(STDOUT_FILENO, front(&text, n as usize));

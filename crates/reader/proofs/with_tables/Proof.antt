@@ -16,12 +16,12 @@ tokens-requires : tie.Need-tokens-requires
 tokens-requires c κs = search needs
 
 -- src/lib.rt:74:27
-enum-known-number : tie.Need-enum-known-number
-enum-known-number c = search needs
+enum-known-no : tie.Need-enum-known-no
+enum-known-no c = search needs
 
 -- src/lib.rt:74:70
 cast-t17 : tie.Need-cast-t17
-cast-t17 c = omega (arith, scan-at (now (c .before .before .before .before .before .before .before .before .before .before .before .before .before .before .before .args .text)) _ _ (c .before .before .before .before .before .before .before .before .before .before .before .before .before .before .before .pre .1) (filled-bad _ _ _ (c .before .before .before .before .before .before .before .tokens .ensures) (c .before .number .given .1)))
+cast-t17 c = omega (arith, scan-at (now (c .before .before .before .before .before .before .before .before .before .before .before .before .before .before .before .args .text)) _ _ (c .before .before .before .before .before .before .before .before .before .before .before .before .before .before .before .pre .1) (filled-bad _ _ _ (c .before .before .before .before .before .before .before .tokens .ensures) (c .before .no .given .1)))
 
 -- src/lib.rt:75:24
 enum-known-tokens : tie.Need-enum-known-tokens
@@ -47,7 +47,7 @@ same-length-2 c = search needs
 
 -- src/lib.rt:62:1
 returns : tie.Need-returns
-returns c = text-refused (now (c .before .before .before .before .before .before .before .before .before .before .before .before .before .before .before .args .text)) (now (c .before .before .before .before .before .before .before .before .before .before .before .before .before .before .before .args .bases)) (now (c .before .before .before .before .before .before .before .before .before .before .before .before .before .before .before .args .out)) _ _ (filled-bad _ _ _ (c .before .before .before .before .before .before .before .tokens .ensures) (c .before .number .given .1))
+returns c = text-refused (now (c .before .before .before .before .before .before .before .before .before .before .before .before .before .before .before .args .text)) (now (c .before .before .before .before .before .before .before .before .before .before .before .before .before .before .before .args .bases)) (now (c .before .before .before .before .before .before .before .before .before .before .before .before .before .before .before .args .out)) _ _ (filled-bad _ _ _ (c .before .before .before .before .before .before .before .tokens .ensures) (c .before .no .given .1))
 
 -- src/lib.rt:62:1
 same-length-3 : tie.Need-same-length-3
@@ -70,7 +70,7 @@ with-tables-spec =
     tie.close
     (tie.spec
     tokens-requires
-    enum-known-number
+    enum-known-no
     cast-t17
     enum-known-tokens
     cast-put-filled

@@ -74,8 +74,8 @@ same-length-2 c = fill-wide (c .before .before .before .before .before .before .
 returns : tie.Need-returns Inv-loop μ-loop
 returns c = fill-end (c .before .before .before .before .before .before .loop .inv) (c .before .before .before .before .next .last .1 .1 .1 .0) (omega (arith, length-part (c .before .before .before .before .before .before .loop .contents) (c .before .before .before .before .before .before .loop .k), c .before .before .before .before .next .kept)) (subst (IsScanned (runAt idle (now (c .before .before .before .before .before .before .before .before .before .before .args .text)) (c .before .before .before .before .before .before .loop .cursor .at)) (now (c .before .before .before .before .before .before .before .before .before .before .args .text)) (c .before .before .before .before .before .before .loop .cursor .at) (c .before .before .before .before .next .last .1 .1 .1 .0)) (c .enum-told .given .1) (c .before .before .before .before .next .ensures))
 
-enum-known-number : tie.Need-enum-known-number Inv-loop μ-loop
-enum-known-number c = search needs
+enum-known-no : tie.Need-enum-known-no Inv-loop μ-loop
+enum-known-no c = search needs
 
 same-length-3 : tie.Need-same-length-3 Inv-loop μ-loop
 same-length-3 c = c .before .before .before .before .before .before .before .loop .inv .long
@@ -84,7 +84,7 @@ same-length-4 : tie.Need-same-length-4 Inv-loop μ-loop
 same-length-4 c = fill-wide (c .before .before .before .before .before .before .before .loop .inv) (c .before .before .before .before .before .next .last .1 .1 .1 .0) (omega (arith, length-part (c .before .before .before .before .before .before .before .loop .contents) (c .before .before .before .before .before .before .before .loop .k), c .before .before .before .before .before .next .kept))
 
 returns-2 : tie.Need-returns-2 Inv-loop μ-loop
-returns-2 c = fill-bad (c .before .before .before .before .before .before .before .loop .inv) (subst (IsScanned (runAt idle (now (c .before .before .before .before .before .before .before .before .before .before .before .args .text)) (c .before .before .before .before .before .before .before .loop .cursor .at)) (now (c .before .before .before .before .before .before .before .before .before .before .before .args .text)) (c .before .before .before .before .before .before .before .loop .cursor .at) (c .before .before .before .before .before .next .last .1 .1 .1 .0)) (c .before .number .given .1) (c .before .before .before .before .before .next .ensures))
+returns-2 c = fill-bad (c .before .before .before .before .before .before .before .loop .inv) (subst (IsScanned (runAt idle (now (c .before .before .before .before .before .before .before .before .before .before .before .args .text)) (c .before .before .before .before .before .before .before .loop .cursor .at)) (now (c .before .before .before .before .before .before .before .before .before .before .before .args .text)) (c .before .before .before .before .before .before .before .loop .cursor .at) (c .before .before .before .before .before .next .last .1 .1 .1 .0)) (c .before .no .given .1) (c .before .before .before .before .before .next .ensures))
 
 pub fill-spec : {M : Type 1} → statement M
 fill-spec =
@@ -109,7 +109,7 @@ fill-spec =
     same-length
     same-length-2
     returns
-    enum-known-number
+    enum-known-no
     same-length-3
     same-length-4
     returns-2)

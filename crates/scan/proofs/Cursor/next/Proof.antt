@@ -23,8 +23,8 @@ token-requires c κs = (search needs, start (begun (c .before .before)), omega (
 enum-told : tie.Need-enum-told
 enum-told c = search needs
 
-enum-known-number : tie.Need-enum-known-number
-enum-known-number c = search needs
+enum-known-no : tie.Need-enum-known-no
+enum-known-no c = search needs
 
 same-length : tie.Need-same-length
 same-length c = search needs
@@ -36,7 +36,7 @@ returns-2 : tie.Need-returns-2
 returns-2 c = subst (IsGap (now (c .before .before .before .before .before .args .text)) (c .before .before .before .before .before .args .self .at)) (c .enum-told .given .1) (c .before .before .begin .ensures)
 
 returns-3 : tie.Need-returns-3
-returns-3 c = subst (IsGap (now (c .before .before .before .before .before .before .args .text)) (c .before .before .before .before .before .before .args .self .at)) (c .before .number .given .1) (c .before .before .before .begin .ensures)
+returns-3 c = subst (IsGap (now (c .before .before .before .before .before .before .args .text)) (c .before .before .before .before .before .before .args .self .at)) (c .before .no .given .1) (c .before .before .before .begin .ensures)
 
 pub next-spec : {M : Type 1} → statement M
 next-spec =
@@ -46,7 +46,7 @@ next-spec =
     enum-known-at
     token-requires
     enum-told
-    enum-known-number
+    enum-known-no
     same-length
     returns
     returns-2
