@@ -7,16 +7,16 @@ use native.Mathlib.Numerals.{add-one}
 use native.Mathlib.Omega.{arith}
 use borrow.Author.Tests.{ltb-true, ltb-false}
 use lib.Dec.{ltb}
-use lib.ListN.{length, getD, take, drop, length-append, drop-of-length-le}
+use lib.ListN.{length, getD, take, drop, length-append}
 use Rattle.laws.specs.Cases.{byBool}
-use Rattle.laws.specs.Over.{over, part, back, length-part}
+use Rattle.laws.specs.Over.{part, back, length-part}
 use Rattle.rules.specs.Characters.{byte}
-use Rattle.rules.specs.Commands.{Name, placeName, Command, command, seg, split, Cut, cut, uncut, cutAt, pieces}
+use Rattle.rules.specs.Commands.{Name, placeName, Command, command, seg, split, cut, cutAt, pieces}
 use Rattle.rules.specs.Reading.{Placed, unplaced, PlacedBlock, placedBlock, blockOf, blockSize, kindOf, readPlace, readPlaces, readBlock, readBlocks, runningBlocks, readSegs, readCut}
-use Rattle.rules.specs.Records.{field, fieldBytes, bytesOf, many, placeFields, blockFields, encode}
-use Rattle.rules.specs.Refusals.{ok, _>>=_, mapR}
+use Rattle.rules.specs.Records.{field, fieldBytes, many, placeFields, blockFields, encode}
+use Rattle.rules.specs.Refusals.{ok, mapR}
 use Rattle.rules.specs.Tokens.{comma, colon, semi}
-use Rattle.rules.specs.Units.{Base, isIdentifier}
+use Rattle.rules.specs.Units.{isIdentifier}
 use Rattle.rules.proofs.ResultLaws.{ok-inj, ok≢bad, bind-ok, map-ok, guard-ok}
 use Rattle.token_table.specs.Table.{placeIn, tokensIn}
 use Rattle.value_fields.proofs.BytesLaws.{bytes-append}

@@ -1,8 +1,8 @@
 -- A place that the rules read: its own field, then its name's pieces and its value, which are parts of the table on both sides of `=`.
-use Prim.Native.Nat.{ℕ, suc, _+_, _-_, _≤_, _<_}
-use mathlib.Core.Path.{_≡_, refl, sym, ap, _∙_}
+use Prim.Native.Nat.{ℕ, _+_, _≤_, _<_}
+use mathlib.Core.Path.{_≡_, sym, ap, _∙_}
 use mathlib.Core.Bool.{Bool, true, false, not, Bool·beq}
-use mathlib.Core.List.{List, [], _∷_, _++_, map, append-nil}
+use mathlib.Core.List.{List, [], _∷_, _++_, map}
 use native.Mathlib.Omega.{arith}
 use borrow.Author.Tests.{ltb-true, ltb-false}
 use lib.Dec.{ltb}
@@ -12,14 +12,13 @@ use Rattle.laws.specs.Over.{over, part, back, back-over, length-part, length-ov
 use Rattle.laws.specs.Lists.{any}
 use Rattle.rules.specs.Commands.{Name, sameName, Element, place, seg, first, Cut, cut, uncut, cutAt, isCut, pieces, isPiece}
 use Rattle.rules.specs.Groups.{readValue}
-use Rattle.rules.specs.Reading.{Placed, placed, unplaced, readPosition, readNamed, readOfKind, readPlace}
+use Rattle.rules.specs.Reading.{Placed, placed, readPosition, readNamed, readOfKind, readPlace}
 use Rattle.rules.specs.Records.{field, fieldBytes, bytesOf, many, elementFields}
-use Rattle.rules.specs.Refusals.{ok, _>>=_, mapR}
+use Rattle.rules.specs.Refusals.{ok}
 use Rattle.rules.specs.Tokens.{Token, posOf, equals}
 use Rattle.rules.specs.Units.{Base, plain, rD, letter, isIdentifier}
 use Rattle.rules.proofs.ResultLaws.{ok-inj, ok≢bad, bind-ok, map-ok, guard-ok}
 use Rattle.token_table.specs.Table.{placeIn, tokensIn}
-use Rattle.read_value.specs.Passes.{Faultless}
 use Rattle.value_fields.proofs.BytesLaws.{bytes-append}
 use Rattle.value_fields.specs.Writes.{Fits, PutValue}
 use Rattle.read_bases.specs.Bases.{basesIn, baseIn}

@@ -1,12 +1,12 @@
 -- Writing part by part: what is done stands over the buffer's start, and what is done and what is left is the whole; the next part goes behind.
-use Prim.Native.Nat.{ℕ, _+_, _-_, _≤_, _<_}
+use Prim.Native.Nat.{ℕ, _+_, _≤_, _<_}
 use mathlib.Core.Path.{_≡_, refl, sym, ap, _∙_}
 use mathlib.Core.Bool.{true}
-use mathlib.Core.List.{List, [], _∷_, _++_, append-assoc, append-nil, map}
+use mathlib.Core.List.{List, [], _++_, append-assoc, append-nil}
 use native.Mathlib.Omega.{arith}
-use lib.ListN.{length, getD, take, drop, length-append, drop-of-length-le}
+use lib.ListN.{length, getD, drop, length-append, drop-of-length-le}
 use Rattle.laws.specs.Over.{over, part, back, back-over, length-over}
-use Rattle.rules.specs.Records.{field, fieldBytes, bytesOf}
+use Rattle.rules.specs.Records.{field, fieldBytes}
 use Rattle.token_table.specs.Table.{contentIn}
 use Rattle.token_table.specs.Parts.{wordsIn, wordsSize}
 use Rattle.token_table.proofs.WordLaws.{words-next, words-bytes}

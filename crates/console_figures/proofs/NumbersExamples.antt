@@ -1,5 +1,4 @@
 -- Texts at and past each limit of the definitions: each table is one theorem, and antt computes it.
-use Prim.Native.Nat.{ℕ}
 use Prim.Native.String.{String}
 use mathlib.Core.Path.{_≡_, refl}
 use mathlib.Core.List.{List, [], _∷_, map}

@@ -2,9 +2,9 @@
 use mathlib.Core.Path.{_≡_, refl, sym, ap, _∙_}
 use mathlib.Core.Bool.{false}
 use mathlib.Core.List.{List, [], _∷_, _++_, map, append-assoc, append-nil, map-append}
-use Prim.Native.Nat.{ℕ, zero, suc, _+_, _-_, _*_, _/_, _%_, _≤_, _<_}
+use Prim.Native.Nat.{ℕ, zero, suc, _+_, _-_, _≤_, _<_}
 use native.Mathlib.Omega.{arith}
-use borrow.Author.Tests.{lt-ltb, le-ltb, ltb-true, ltb-false}
+use borrow.Author.Tests.{ltb-true, ltb-false}
 use lib.Dec.{eqb, ltb}
 use lib.ListN.{length, getD, length-append}
 use lib.Seq.{getD-append-add}
@@ -12,7 +12,7 @@ use Rattle.laws.specs.Cases.{byBool}
 use Rattle.rules.specs.Units.{letter, Unit, num, keyed, identifier, symbolic, text}
 use Rattle.rules.specs.Commands.{Element, single, range, Place, place, Block, block, Command, command, placeBase}
 use Rattle.rules.specs.Records.{Field, field, unitField, elementFields, many, placeFields, blockFields, fieldsOf, fieldBytes, bytesOf, encode, basesOf, bases}
-use Rattle.rules.specs.Refusals.{Res, ok}
+use Rattle.rules.specs.Refusals.{ok}
 use Rattle.rules.specs.WellFormed.{recordOf}
 use Rattle.rules.proofs.EncodeDecode.{record-is}
 use Rattle.console_figures.specs.Letters.{placeTag, fieldSize, letterAt, lettersFrom, lettersOf}

@@ -1,5 +1,4 @@
 // A line on a terminal: as much of it as fits around a place, and a caret below the place.
-ghost use mathlib.Core.Path.{_≡_};
 ghost use Prim.Native.Nat.{_+_, _≤_};
 ghost use lib.ListN.{length};
 ghost use Rattle.io.specs.Counts.{Counts};

@@ -1,9 +1,8 @@
 // What stands around a token of the table: its index, its neighbours, and the value, the place and the block that hold it.
 ghost use Prim.Native.Nat.{_≤_};
-ghost use lib.ListN.{length};
 
 // The kind that no token has, for an index outside the table.
-pub const NO_KIND: u8 = 12;
+const NO_KIND: u8 = 12;
 
 // The base of the places past the end of the list.
 const DECIMAL: u8 = b'D';

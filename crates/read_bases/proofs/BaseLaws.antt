@@ -1,6 +1,6 @@
 -- A byte is the letter of a base exactly if it is one of the five, so the list is read letter by letter.
 use Prim.Native.Nat.{ℕ, suc, _+_, _≤_, _<_}
-use mathlib.Core.Path.{_≡_, refl, sym, ap, ap₂, _∙_}
+use mathlib.Core.Path.{_≡_, refl, sym, ap₂, _∙_}
 use mathlib.Core.Bool.{Bool, true, false, false≢true}
 use mathlib.Core.List.{List, [], _∷_}
 use mathlib.Core.Option.{none, some}
@@ -13,7 +13,7 @@ use Rattle.laws.specs.Cases.{byBool, byOption, some-inj}
 use Rattle.laws.specs.Keys.{anyOf}
 use Rattle.laws.specs.Lists.{next, getD-map-lt}
 use Rattle.rules.specs.Reading.{readLetters}
-use Rattle.rules.specs.Refusals.{ok, mapR}
+use Rattle.rules.specs.Refusals.{ok}
 use Rattle.rules.specs.Units.{Base, plain, rD, letter, baseOf, baseAt}
 use Rattle.rules.proofs.ResultLaws.{ok-inj, ok≢bad, map-ok}
 use Rattle.token_table.specs.Table.{verdict}

@@ -1,7 +1,7 @@
 -- The whole command: the code before the first `:`, the blocks behind it, and what the tally comes to; 6 and 7 by where the first `;` stands.
-use Prim.Native.Nat.{ℕ, suc, _+_, _-_, _≤_, _<_}
-use mathlib.Core.Path.{_≡_, refl, sym, ap, _∙_}
-use mathlib.Core.Bool.{Bool, true, false, cond}
+use Prim.Native.Nat.{ℕ, _+_, _-_, _≤_, _<_}
+use mathlib.Core.Path.{_≡_, refl, sym, _∙_}
+use mathlib.Core.Bool.{true, false}
 use mathlib.Core.List.{List, [], _∷_, map}
 use native.Mathlib.Omega.{arith}
 use lib.ListN.{length, getD, take, drop, drop-of-length-le}
@@ -10,24 +10,25 @@ use Rattle.laws.specs.Lists.{next}
 use Rattle.rules.specs.Commands.{command, split, cutAt, pieces}
 use Rattle.rules.specs.Reading.{Placed, placed, PlacedBlock, placedBlock, blockOf, readBlocks, runningBlocks, readSegs, readCut}
 use Rattle.rules.specs.Records.{field, encode, many, blockFields}
-use Rattle.rules.specs.Refusals.{Res, ok, bad, _>>=_}
+use Rattle.rules.specs.Refusals.{ok, bad, _>>=_}
 use Rattle.rules.specs.Tokens.{colon, semi}
 use Rattle.rules.specs.Units.{Base, isIdentifier}
 use Rattle.rules.proofs.ResultLaws.{byRes}
-use Rattle.token_table.specs.Table.{placeIn, tokensIn, verdict}
+use Rattle.token_table.specs.Table.{placeIn, tokensIn}
 use Rattle.token_table.specs.declared.Verdict.{Verdict}
 use Rattle.token_table.specs.declared.Verdict.the-variants.{Fine as Good, Refused as Bad}
 use Rattle.read_pieces.specs.Pieces.{piecesAt}
 use Rattle.token_table.specs.Parts.{before, placeOr, partsFrom, wordsIn, wordsSize, capped}
 use Rattle.token_table.proofs.FindLaws.{parts-all, parts-next, cut-at, cut-none}
 use Rattle.token_table.proofs.WordLaws.{pieces-words, words-bytes, cap-cap, cap-most, cap-small}
-use Rattle.read_place.proofs.PlaceLaws.{bytes-length, verdict-ok, verdict-bad}
-use Rattle.read_command.specs.Blocks.{counted, opened, tallyPlaces, tallyBlocks, blocksRead, tallyRead, commandRead}
+use Rattle.token_table.proofs.VerdictLaws.{verdict-ok, verdict-bad}
+use Rattle.read_place.proofs.PlaceLaws.{bytes-length}
+use Rattle.read_command.specs.Blocks.{opened, tallyPlaces, tallyBlocks, blocksRead, tallyRead, commandRead}
 use Rattle.read_command.specs.declared.Tally.{Tally}
 use Rattle.read_command.specs.declared.Tallied.{Tallied}
-use Rattle.read_command.specs.declared.Tallied.the-variants.{Fine, Refused}
+use Rattle.read_command.specs.declared.Tallied.the-variants.{Fine}
 use Rattle.read_command.specs.declared.Checked.{Checked}
-use Rattle.read_command.specs.declared.Checked.the-variants.{Fine as Right, Refused as Wrong}
+use Rattle.read_command.specs.declared.Checked.the-variants.{Refused as Wrong}
 use Rattle.read_command.proofs.TallyLaws.{ordersOf, orders-blocks, bytes-blocks, blocksSize}
 
 -- ---- the tally of a whole command

@@ -1,16 +1,15 @@
 -- A tally holds what the rules say of the places it has counted: their number, the bytes of their fields, and the running product.
-use Prim.Native.Nat.{ℕ, zero, suc, _+_, _*_, _≤_, _<_}
-use mathlib.Core.Path.{_≡_, refl, sym, ap, _∙_}
-use mathlib.Core.Bool.{Bool, true, false, cond, not, _||_}
-use mathlib.Core.List.{List, [], _∷_, _++_, map}
-use native.Mathlib.Numerals.{add-one}
+use Prim.Native.Nat.{ℕ, _+_, _*_}
+use mathlib.Core.Path.{_≡_, refl, sym, _∙_}
+use mathlib.Core.Bool.{Bool, cond}
+use mathlib.Core.List.{List, [], _∷_, map}
 use native.Mathlib.Omega.{arith}
 use lib.Dec.{leb}
-use lib.ListN.{length, length-append}
+use lib.ListN.{length}
 use Rattle.laws.specs.Cases.{byBool}
-use Rattle.rules.specs.Commands.{Place, place, Block, block, command, placeCount}
-use Rattle.rules.specs.Reading.{Placed, placed, unplaced, PlacedBlock, placedBlock, blockOf, blockSize, running, runningBlocks}
-use Rattle.rules.specs.Records.{Field, field, fieldBytes, bytesOf, many, placeFields, blockFields}
+use Rattle.rules.specs.Commands.{Place, placeCount}
+use Rattle.rules.specs.Reading.{Placed, placed, unplaced, PlacedBlock, placedBlock, blockOf, running, runningBlocks}
+use Rattle.rules.specs.Records.{bytesOf, many, placeFields, blockFields}
 use Rattle.rules.specs.Refusals.{Res, ok, bad, _>>=_, tooManyOrders}
 use Rattle.token_table.specs.Parts.{capped}
 use Rattle.token_table.proofs.WordLaws.{cap-cap}

@@ -1,23 +1,23 @@
 -- The turns of the loops over places and blocks: a part of the table is read, and the tally goes on.
-use Prim.Native.Nat.{ℕ, suc, _+_, _-_, _*_, _≤_, _<_}
+use Prim.Native.Nat.{ℕ, suc, _+_, _-_, _≤_, _<_}
 use mathlib.Core.Path.{_≡_, refl, sym, ap, _∙_, subst}
-use mathlib.Core.Bool.{Bool, true, false, cond}
-use mathlib.Core.List.{List, [], _∷_, _++_, map}
+use mathlib.Core.Bool.{Bool, true, false}
+use mathlib.Core.List.{List, [], _∷_}
 use native.Mathlib.Numerals.{add-one}
 use native.Mathlib.Omega.{arith}
-use borrow.Author.Tests.{le-leb, lt-leb, ltb-true, le-ltb, lt-ltb}
-use lib.Dec.{leb, ltb}
+use borrow.Author.Tests.{ltb-true, le-ltb, lt-ltb}
+use lib.Dec.{ltb}
 use lib.ListN.{length, take, drop}
 use lib.Seq.{length-take-le}
 use Rattle.laws.specs.Cases.{byBool}
-use Rattle.rules.specs.Commands.{Name, Place, placeCount, placeName, Seg, seg, split, command, first, isCut, cutAt, pieces}
-use Rattle.rules.specs.Reading.{Placed, placed, unplaced, PlacedBlock, placedBlock, blockOf, blockSize, kindOf, readPlace, readPlaces, readBlock, readBlocks, runningBlocks, readSegs, readCut}
-use Rattle.rules.specs.Refusals.{Res, ok, bad, _>>=_, mapR, guard}
-use Rattle.rules.specs.Tokens.{comma, colon, equals, semi, sepCode}
-use Rattle.rules.specs.Units.{Base, isIdentifier}
-use Rattle.rules.proofs.ResultLaws.{byRes, ok≢bad, guard-ok}
-use Rattle.token_table.specs.Table.{placeIn, tokensIn, verdict}
-use Rattle.token_table.specs.Parts.{before, placeOr, partsFrom, wordsIn, wordsSize, capped}
+use Rattle.rules.specs.Commands.{Name, Place, placeCount, placeName, Seg, seg, split, first}
+use Rattle.rules.specs.Reading.{Placed, placed, unplaced, PlacedBlock, placedBlock, blockSize, kindOf, readPlace, readPlaces, readBlock, readBlocks}
+use Rattle.rules.specs.Refusals.{Res, ok, bad, _>>=_, mapR}
+use Rattle.rules.specs.Tokens.{comma, colon, equals}
+use Rattle.rules.specs.Units.{Base}
+use Rattle.rules.proofs.ResultLaws.{byRes}
+use Rattle.token_table.specs.Table.{tokensIn}
+use Rattle.token_table.specs.Parts.{before, placeOr, partsFrom, capped}
 use Rattle.token_table.proofs.FindLaws.{parts-all, parts-end, parts-next, found-inside, is-cut}
 use Rattle.marks.specs.Marks.{addedIf}
 use Rattle.marks.specs.declared.Marks.{Marks}
@@ -27,7 +27,7 @@ use Rattle.read_place.specs.Places.{placeSize, placeRead, KnownIf, ReadsPlace}
 use Rattle.read_place.proofs.PlaceLaws.{name-read}
 use Rattle.read_place.specs.declared.PlaceRead.{PlaceRead}
 use Rattle.read_place.specs.declared.PlaceRead.the-variants.{Fine as PlaceFine, Refused as PlaceRefused}
-use Rattle.read_command.specs.Blocks.{counted, opened, tallyPlaces, tallyBlocks, placesRead, blockRead, blocksRead, HasKind}
+use Rattle.read_command.specs.Blocks.{counted, opened, tallyPlaces, placesRead, blockRead, blocksRead, HasKind}
 use Rattle.read_command.specs.declared.Tally.{Tally}
 use Rattle.read_command.specs.declared.Tallied.{Tallied}
 use Rattle.read_command.specs.declared.Tallied.the-variants.{Fine, Refused}

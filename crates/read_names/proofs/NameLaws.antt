@@ -1,7 +1,7 @@
 -- Keys and names are worked out piece by piece, and the places of a table one behind the other.
 use Prim.Native.Nat.{ℕ, suc, _+_, _-_, _≤_, _<_}
 use mathlib.Core.Path.{_≡_, refl, sym, ap, _∙_, subst}
-use mathlib.Core.Bool.{Bool, true, false, _||_, not}
+use mathlib.Core.Bool.{Bool, true, false, _||_}
 use mathlib.Core.List.{List, [], _∷_, _++_, append-assoc}
 use native.Mathlib.Numerals.{add-one}
 use native.Mathlib.Omega.{arith}
@@ -10,7 +10,7 @@ use lib.Dec.{leb, ltb, eqb}
 use lib.ListN.{length, getD, take, drop, length-append, length-drop, drop-of-length-le}
 use lib.Seq.{drop-drop, drop-at, take-append-le, take-add, take-suc, getD-drop}
 use Rattle.laws.specs.Cases.{byBool}
-use Rattle.laws.specs.Lists.{any, eqL, next}
+use Rattle.laws.specs.Lists.{any, eqL}
 use Rattle.rules.specs.Commands.{Name, sameName}
 use Rattle.rules.specs.Tokens.{comma, equals, sepCode}
 use Rattle.token_table.specs.Table.{kindIn, contentIn}

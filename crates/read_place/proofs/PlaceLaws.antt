@@ -1,25 +1,25 @@
 -- A place in code is the rule's place: the tokens before and behind `=` are parts of the table, and the bytes of its fields add up.
 use Prim.Native.Nat.{ℕ, zero, suc, _+_, _-_, _≤_, _<_}
-use mathlib.Core.Path.{_≡_, refl, sym, ap, ap₂, _∙_, subst}
+use mathlib.Core.Path.{_≡_, refl, sym, ap, _∙_, subst}
 use mathlib.Core.Bool.{Bool, true, false, not, Bool·beq, false≢true}
-use mathlib.Core.List.{List, [], _∷_, _++_, map, append-assoc}
+use mathlib.Core.List.{List, [], _∷_, _++_, map}
 use native.Mathlib.Omega.{arith}
 use borrow.Author.Tests.{leb-true, ltb-true, le-ltb, lt-ltb}
 use lib.Dec.{leb, ltb}
 use lib.ListN.{length, getD, take, drop, length-append, length-drop}
 use lib.Seq.{take-all, take-nil}
-use Rattle.laws.specs.Cases.{byBool}
 use Rattle.laws.specs.Lists.{any, isNil}
-use Rattle.rules.specs.Commands.{Name, sameName, Element, Place, place, placeName, sum, terms, valueCount, first, seg, cut, uncut, cutAt, isCut, pieces, isPiece}
+use Rattle.rules.specs.Commands.{Name, sameName, Element, Place, place, placeName, sum, terms, valueCount, first, seg, cutAt, isCut, pieces, isPiece}
 use Rattle.rules.specs.Groups.{unitAfter, alternate, readUnits, readValue, elements, groupsOf, collect}
-use Rattle.rules.specs.Reading.{Placed, placed, unplaced, readPosition, readNamed, readOfKind, readPlace}
-use Rattle.rules.specs.Records.{Field, field, fieldBytes, bytesOf, many, elementFields, placeFields}
-use Rattle.rules.specs.Refusals.{Res, ok, bad, _>>=_, mapR, guard}
+use Rattle.rules.specs.Reading.{Placed, placed, unplaced, readPosition, readNamed, readPlace}
+use Rattle.rules.specs.Records.{Field, field, bytesOf, many, elementFields}
+use Rattle.rules.specs.Refusals.{ok, bad}
 use Rattle.rules.specs.Tokens.{amp, equals, sepCode}
 use Rattle.rules.specs.Units.{Base, plain, rD, letter, isIdentifier}
 use Rattle.rules.proofs.ReadSound.{value-some}
 use Rattle.rules.proofs.ResultLaws.{byRes, ok-inj, ok≢bad, bind-ok, map-ok, guard-ok}
-use Rattle.token_table.specs.Table.{placeIn, tokensIn, verdict}
+use Rattle.token_table.specs.Table.{placeIn, tokensIn}
+use Rattle.token_table.proofs.VerdictLaws.{verdict-ok, verdict-bad}
 use Rattle.token_table.specs.declared.Verdict.{Verdict}
 use Rattle.token_table.specs.declared.Verdict.the-variants.{Fine as Good, Refused as Wrong}
 use Rattle.token_table.specs.Parts.{before, placeOr, wordsIn, wordsSize, capped}
@@ -139,14 +139,6 @@ position-some (t ∷ ts) cs b e h q =
     (λ n p y. rw y)
 
 -- ---- by name
-
-pub verdict-bad : {A : Type 0} (r : Res A) (n p : ℕ) → verdict r ≡ Wrong n p → r ≡ bad n p
-verdict-bad (ok a) n p h = let z : _≡_ {A = ℕ} 0 1 = cc in absurd (omega arith)
-verdict-bad (bad m q) n p h = let e : m ≡ n = cc in let f : q ≡ p = cc in rw (e, f)
-
-pub verdict-ok : {A C : Type 0} (r : Res A) → verdict r ≡ Good → ((a : A) → r ≡ ok a → C) → C
-verdict-ok (ok a) h k = k a refl
-verdict-ok (bad m q) h k = let z : _≡_ {A = ℕ} 0 1 = cc in absurd (omega arith)
 
 pub part-from : (ts : List ℕ) (q : ℕ) → take (length ts - q) (drop q ts) ≡ drop q ts
 part-from ts q = take-all (length ts - q) (drop q ts) (simp length-drop (omega arith))

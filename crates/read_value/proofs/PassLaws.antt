@@ -20,6 +20,7 @@ use Rattle.units.specs.declared.Word.{Word}
 use Rattle.units.specs.declared.Word.the-variants.{Numeral, Keyed, Identifier, Symbolic, Unreadable, TooBig}
 use Rattle.units.proofs.WordLaws.{unit-is}
 use Rattle.token_table.specs.Table.{kindIn, placeIn, contentIn, lexOfKind, sepOf, tokensIn, verdict, Alternates, startIn, endIn}
+use Rattle.token_table.proofs.VerdictLaws.{verdict-ok, verdict-bad}
 use Rattle.token_table.specs.declared.Verdict.{Verdict}
 use Rattle.token_table.specs.declared.Verdict.the-variants.{Fine, Refused}
 use Rattle.token_table.proofs.AltLaws.{unit-kind, joiner-yes, joiner-none, wanted}
@@ -154,14 +155,6 @@ module _ (b : ℕ) (cs : List ℕ) (t : ℕ) where
   word-none e g = rw (ne-eqb (kindIn t) 10 (λ z. g (e ∙ z)))
 
 -- ---- the whole value
-
-verdict-bad : {A : Type 0} (r : Res A) (n p : ℕ) → verdict r ≡ Refused n p → r ≡ bad n p
-verdict-bad (ok a) n p h = let z : _≡_ {A = ℕ} 0 1 = cc in absurd (omega arith)
-verdict-bad (bad m q) n p h = let e : m ≡ n = cc in let f : q ≡ p = cc in rw (e, f)
-
-verdict-ok : {A C : Type 0} (r : Res A) → verdict r ≡ Fine → ((a : A) → r ≡ ok a → C) → C
-verdict-ok (ok a) h k = k a refl
-verdict-ok (bad m q) h k = let z : _≡_ {A = ℕ} 0 1 = cc in absurd (omega arith)
 
 count-test : (v : List Element) → leb (valueCount v) mostArguments ≡ leb (sum (map terms v)) mostArguments
 count-test [] = refl

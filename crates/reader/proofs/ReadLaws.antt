@@ -5,16 +5,14 @@ use mathlib.Core.List.{List}
 use native.Mathlib.Omega.{arith}
 use borrow.Author.Tests.{le-leb, lt-leb}
 use lib.ListN.{length, take}
-use Rattle.laws.specs.Over.{over}
 use Rattle.rules.specs.declared.Answer.{Answer}
 use Rattle.rules.specs.declared.Answer.the-variants.{Done, Refused}
 use Rattle.rules.specs.Answers.{fitted, reading, Promise, Reads}
 use Rattle.rules.specs.Commands.{Command, cutAt}
 use Rattle.rules.specs.Reading.{readCut, readLetters, read}
 use Rattle.rules.specs.Records.{encode}
-use Rattle.rules.specs.Refusals.{Res, ok, bad, _>>=_, mapR, guard}
+use Rattle.rules.specs.Refusals.{Res, ok, bad, mapR}
 use Rattle.rules.specs.Tokens.{Token, semi, scan}
-use Rattle.rules.specs.Units.{Base}
 use Rattle.rules.proofs.ReadSound.{cut-ok, cut-wf}
 use Rattle.rules.proofs.ResultLaws.{byRes}
 use Rattle.rules.proofs.ScanSound.{scan-ok}
@@ -25,7 +23,7 @@ use Rattle.read_bases.specs.Bases.{basesIn}
 use Rattle.read_bases.proofs.BaseLaws.{letters-are}
 use Rattle.token_table.specs.Parts.{capped}
 use Rattle.token_table.proofs.WordLaws.{cap-small}
-use Rattle.read_place.proofs.PlaceLaws.{verdict-ok, verdict-bad}
+use Rattle.token_table.proofs.VerdictLaws.{verdict-ok, verdict-bad}
 use Rattle.read_command.specs.Blocks.{commandRead}
 use Rattle.read_command.specs.declared.Checked.{Checked}
 use Rattle.read_command.specs.declared.Checked.the-variants.{Fine as Right, Refused as Wrong}

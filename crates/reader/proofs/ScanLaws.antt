@@ -1,7 +1,6 @@
 -- A scan is refused at a place inside the text: each state holds the place of a byte that was read, and refusals show that place or the byte's.
 use Prim.Native.Nat.{ℕ, suc, _+_, _≤_}
 use mathlib.Core.Path.{_≡_, subst}
-use mathlib.Core.Bool.{Bool, cond}
 use mathlib.Core.List.{List, [], _∷_, reverse}
 use native.Mathlib.Omega.{arith}
 use borrow.Author.Tests.{le-leb}
@@ -10,7 +9,7 @@ use lib.ListN.{length}
 use Rattle.laws.specs.Cases.{Always, byBool, cond-both}
 use Rattle.rules.specs.Characters.{isWordChar, isEffector, isPermitted}
 use Rattle.rules.specs.Refusals.{Res, ok, bad, _>>=_}
-use Rattle.rules.specs.Tokens.{sep, plusplus, Token, at, State, idle, inWord, inPlus, oneAmp, twoAmp, slash, comment, star, inStr, quote, wordMost, wordToken, strToken, wordTokens, flush, andThen, Step, stay, emit, fresh, after, end, step, next, run, firstOff, scan}
+use Rattle.rules.specs.Tokens.{sep, plusplus, Token, at, State, idle, inWord, inPlus, oneAmp, twoAmp, slash, comment, star, inStr, quote, wordMost, wordToken, wordTokens, flush, andThen, Step, stay, emit, fresh, after, end, step, next, run, firstOff, scan}
 
 -- a refusal at or before the place m
 abbrev At : {A : Type 0} → Res A → ℕ → Type 0

@@ -13,11 +13,11 @@ use rules::TOO_LONG;
 use rules::TOO_MANY;
 use rules::UNCLOSED;
 ghost use mathlib.Core.Path.{_≡_};
-ghost use Prim.Native.Nat.{ℕ, _+_, _<_, _≤_};
+ghost use Prim.Native.Nat.{_+_, _<_, _≤_};
 ghost use lib.ListN.{length, getD};
 ghost use Rattle.chars.specs.Classes.{table};
 ghost use Rattle.scan.specs.Along.{Skipped, IsComment, IsWord, IsString, IsAmp, IsGap, runAt, Begins};
-ghost use mathlib.Core.List.{List, [], _∷_};
+ghost use mathlib.Core.List.{[], _∷_};
 ghost use Rattle.rules.specs.Characters.{byte};
 ghost use Rattle.rules.specs.Tokens.{idle, inWord, run, scan};
 ghost use Rattle.scan.specs.Scanned.{IsScanned, IsSep};
@@ -47,7 +47,7 @@ pub fn skip(text: &[u8], classes: &[u8; 128], from: usize) -> usize
 }
 
 // Where a comment ends, behind its closing bytes; or nowhere.
-pub enum CommentEnd {
+enum CommentEnd {
     At(usize),
     Nowhere,
 }
@@ -71,13 +71,13 @@ fn comment(text: &[u8], from: usize) -> CommentEnd
 }
 
 // How many bytes a word has, format effectors not counted, and where it ends.
-pub struct WordEnd {
-    pub len: usize,
-    pub end: usize,
+struct WordEnd {
+    len: usize,
+    end: usize,
 }
 
 // The rest of a word whose first byte is `first`, from `from` on: its bytes into `out`.
-pub fn word(text: &[u8], classes: &[u8; 128], first: u8, from: usize, out: &mut [u8]) -> WordEnd
+fn word(text: &[u8], classes: &[u8; 128], first: u8, from: usize, out: &mut [u8]) -> WordEnd
     requires { ⌜ (now classes ≡ table) × (from ≤ length (now text)) × (length (now text) < length (now out) + from) ⌝ }
     ensures { λ r. ⌜ IsWord (now (text .entry)) from first (now (out .exit)) (r .len) (r .end) ⌝ }
 {
@@ -108,13 +108,13 @@ pub fn word(text: &[u8], classes: &[u8; 128], first: u8, from: usize, out: &mut 
 }
 
 // How many bytes a string's content has and where the string ends; or it does not end.
-pub enum StringEnd {
+enum StringEnd {
     Closed { len: usize, end: usize },
     Open,
 }
 
 // The content of a string, from behind its opening mark on, into `out`.
-pub fn string(text: &[u8], from: usize, out: &mut [u8]) -> StringEnd
+fn string(text: &[u8], from: usize, out: &mut [u8]) -> StringEnd
     requires { ⌜ length (now text) ≤ length (now out) + from ⌝ }
     ensures { λ r. ⌜ IsString (now (text .entry)) from (now (out .exit)) r ⌝ }
 {
@@ -140,13 +140,13 @@ pub fn string(text: &[u8], from: usize, out: &mut [u8]) -> StringEnd
 }
 
 // A separator that begins with `&`: its kind, and where it ends.
-pub struct AmpEnd {
-    pub kind: u8,
-    pub end: usize,
+struct AmpEnd {
+    kind: u8,
+    end: usize,
 }
 
 // The separator that begins with the `&` before `from`, the longest that fits.
-pub fn ampersand(text: &[u8], classes: &[u8; 128], from: usize) -> AmpEnd
+fn ampersand(text: &[u8], classes: &[u8; 128], from: usize) -> AmpEnd
     requires { ⌜ (now classes ≡ table) × (from ≤ length (now text)) ⌝ }
     ensures { λ r. ⌜ IsAmp (now (text .entry)) from (r .kind) (r .end) ⌝ }
 {
@@ -178,14 +178,14 @@ pub fn ampersand(text: &[u8], classes: &[u8; 128], from: usize) -> AmpEnd
 }
 
 // What stands behind a gap: a byte that begins a token, with its class; the end of the text; or a refusal.
-pub enum Gap {
+enum Gap {
     Start { at: usize, class: u8 },
     End,
     Refused { no: u8, place: usize },
 }
 
 // The first place from `from` on that holds neither a format effector nor a comment.
-pub fn begin(text: &[u8], classes: &[u8; 128], from: usize) -> Gap
+fn begin(text: &[u8], classes: &[u8; 128], from: usize) -> Gap
     requires { ⌜ now classes ≡ table ⌝ }
     ensures { λ r. ⌜ IsGap (now (text .entry)) from r ⌝ }
 {
@@ -217,12 +217,12 @@ pub fn begin(text: &[u8], classes: &[u8; 128], from: usize) -> Gap
 }
 
 // A place in the text that no token is in the midst of.
-pub struct Cursor {
-    pub at: usize,
+struct Cursor {
+    at: usize,
 }
 
 // The next token and the cursor behind it; the end of the text; or a refusal.
-pub enum Scanned {
+enum Scanned {
     Token {
         place: usize,
         len: usize,
@@ -370,7 +370,7 @@ fn token(text: &[u8], classes: &[u8; 128], place: usize, class: u8, out: &mut [u
 
 impl Cursor {
     // The next token from the cursor on, its content at the start of `out`.
-    pub fn next(self, text: &[u8], classes: &[u8; 128], out: &mut [u8]) -> Scanned
+    fn next(self, text: &[u8], classes: &[u8; 128], out: &mut [u8]) -> Scanned
         requires { ⌜ (now classes ≡ table) × (length (now text) ≤ length (now out) + self .at) ⌝ }
         ensures { λ r. ⌜ IsScanned (runAt idle (now (text .entry)) (self .at)) (now (text .entry)) (self .at) (now (out .exit)) r ⌝ }
     {

@@ -1,18 +1,16 @@
 -- Where the first separator of a kind stands, there the rules cut: a token is that separator exactly if its kind is the separator's number.
-use Prim.Native.Nat.{ℕ, zero, suc, _+_, _-_, _≤_, _<_}
-use mathlib.Core.Path.{_≡_, refl, sym, ap, _∙_}
-use mathlib.Core.Bool.{Bool, true, false, cond}
+use Prim.Native.Nat.{ℕ, _+_, _-_, _≤_, _<_}
+use mathlib.Core.Path.{_≡_, refl, sym, _∙_}
 use mathlib.Core.List.{List, [], _∷_}
-use native.Mathlib.Numerals.{add-one}
-use native.Mathlib.Nat.{add-zero, add-sub-cancel-left}
+use native.Mathlib.Nat.{add-zero}
 use native.Mathlib.Omega.{arith}
-use borrow.Author.Tests.{eq-eqb, ne-eqb, ltb-true, ltb-false, le-leb, lt-leb, le-ltb, lt-ltb}
-use lib.Dec.{leb, ltb, eqb}
+use borrow.Author.Tests.{eq-eqb, ne-eqb, ltb-true, ltb-false, le-leb, lt-leb}
+use lib.Dec.{ltb, eqb}
 use lib.ListN.{length, getD, take, drop, length-drop, drop-of-length-le}
 use lib.Seq.{drop-drop}
 use Rattle.laws.specs.Cases.{byBool, eqb-sym}
 use Rattle.laws.specs.Lists.{next}
-use Rattle.rules.specs.Commands.{isSep, first, Seg, seg, consHead, split, Cut, cut, uncut, consCut, cutAt, isCut}
+use Rattle.rules.specs.Commands.{isSep, first, Seg, seg, split, Cut, cut, uncut, consCut, cutAt, isCut}
 use Rattle.rules.specs.Tokens.{Sep, ampamp-, ampamp, amp-, amp, plusplus, dash, comma, colon, equals, semi, sepCode, Token}
 use Rattle.token_table.specs.Table.{kindIn, placeIn, contentIn, lexOfKind, tokenIn, tokensIn, wordKind}
 use Rattle.token_table.proofs.AltLaws.{sep-code}

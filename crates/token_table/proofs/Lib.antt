@@ -5,3 +5,4 @@ pub mod PackLaws
 pub mod ContentLaws
 pub mod FindLaws
 pub mod WordLaws
+pub mod VerdictLaws

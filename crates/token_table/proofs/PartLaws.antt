@@ -1,18 +1,16 @@
--- Parts: the tokens of a part of the table are that part of the token list, since `tokensIn` takes number by number; and what start and end of a
--- token cut out of the contents is its content, since both are kept inside.
-use Prim.Native.Nat.{ℕ, zero, suc, _+_, _-_, _≤_, _<_}
-use mathlib.Core.Path.{_≡_, refl, ap}
-use mathlib.Core.List.{List, [], _∷_, _++_, map-append}
+-- Parts: the tokens of two parts of the table, one behind the other, are those of the whole; and what start and end of a token cut out of the
+-- contents is its content, since both are kept inside.
+use Prim.Native.Nat.{ℕ, _+_, _-_, _≤_}
+use mathlib.Core.Path.{_≡_}
+use mathlib.Core.List.{List, [], _++_, map-append}
 use native.Mathlib.Omega.{arith}
 use native.Mathlib.Nat.{add-sub-cancel-left}
 use borrow.Author.Tests.{ltb-true, ltb-false, le-ltb}
 use lib.Dec.{ltb}
-use lib.ListN.{length, getD, take, drop, length-map, length-drop, drop-of-length-le}
+use lib.ListN.{length, take, drop, length-drop, drop-of-length-le}
 use lib.Seq.{take-all}
 use mathlib.Core.Bool.{false}
 use Rattle.laws.specs.Cases.{byBool}
-use Rattle.laws.specs.Lists.{getD-map-lt}
-use Rattle.rules.specs.Tokens.{Token}
 use Rattle.token_table.specs.Table.{fromIn, sizeIn, contentIn, startIn, endIn, tokenIn, tokensIn}
 
 -- ---- parts of the table
@@ -20,22 +18,6 @@ use Rattle.token_table.specs.Table.{fromIn, sizeIn, contentIn, startIn, 
 module _ (cs : List ℕ) where
   pub tokens-append : (ts us : List ℕ) → tokensIn cs (ts ++ us) ≡ tokensIn cs ts ++ tokensIn cs us
   tokens-append ts us = map-append (tokenIn cs) ts us
-
-  pub tokens-take : (n : ℕ) (ts : List ℕ) → tokensIn cs (take n ts) ≡ take n (tokensIn cs ts)
-  tokens-take zero ts = refl
-  tokens-take (suc n) [] = refl
-  tokens-take (suc n) (t ∷ ts) = ap (λ l. tokenIn cs t ∷ l) (tokens-take n ts)
-
-  pub tokens-drop : (n : ℕ) (ts : List ℕ) → tokensIn cs (drop n ts) ≡ drop n (tokensIn cs ts)
-  tokens-drop zero ts = refl
-  tokens-drop (suc n) [] = refl
-  tokens-drop (suc n) (t ∷ ts) = tokens-drop n ts
-
-  pub tokens-length : (ts : List ℕ) → length (tokensIn cs ts) ≡ length ts
-  tokens-length ts = length-map ts (tokenIn cs)
-
-  pub tokens-at : (ts : List ℕ) (i : ℕ) (d : Token) → i < length ts → getD (tokensIn cs ts) i d ≡ tokenIn cs (getD ts i 0)
-  tokens-at ts i d h = getD-map-lt (tokenIn cs) ts i 0 d h
 
 -- ---- the part of the contents that a token has
 

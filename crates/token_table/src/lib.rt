@@ -1,7 +1,7 @@
 // The token table: a token is one number that holds its kind, its place in the text, and where its content starts in the contents and its
 // length; the tokens up to a separator, and the words of a code or of a name.
 use rules::WRONG_SHAPE;
-ghost use Prim.Native.Nat.{ℕ, _<_, _+_};
+ghost use Prim.Native.Nat.{_<_, _+_};
 ghost use mathlib.Core.Path.{_≡_};
 ghost use Rattle.token_table.specs.Table.{kindIn, placeIn, startIn, endIn, packed, fitsKind, Alternates, contentIn};
 ghost use mathlib.Core.Bool.{true};

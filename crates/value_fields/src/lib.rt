@@ -101,7 +101,7 @@ fn element_len(
 }
 
 // Where the leading units of the element at the n-th unit stand: behind `&-` where those of the element before stand, else here.
-pub fn front_of(kind: u8, before: usize, n: usize) -> usize
+fn front_of(kind: u8, before: usize, n: usize) -> usize
     ensures { λ r. ⌜ r ≡ cond (eqb kind (sepCode amp-)) before n ⌝ }
 {
     if kind == token_table::AMP_DASH {
@@ -111,7 +111,7 @@ pub fn front_of(kind: u8, before: usize, n: usize) -> usize
 }
 
 // Where the last unit of the element at the n-th unit stands, the lower end of a range.
-pub fn last_of(kind: u8, n: usize, leads: usize) -> usize
+fn last_of(kind: u8, n: usize, leads: usize) -> usize
     requires { ⌜ n + leads < 18446744073709551616 ⌝ }
     ensures { λ r. ⌜ r ≡ cond (eqb kind (sepCode amp-)) n (n + leads) ⌝ }
 {

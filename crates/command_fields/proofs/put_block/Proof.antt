@@ -1,3 +1,4 @@
+-- `put_block` meets its contract: the block's own field is written, then its places behind it.
 use borrow.Author.Needs.{needs}
 use Rattle.command_fields.proofs.BlockLaws.{block-room, block-places, block-put}
 use Rattle.command_fields.proofs.PlaceLaws.{wrote-inside}
@@ -10,26 +11,17 @@ use native.Mathlib.Omega.{arith}
 use lib.ListN.{length}
 use mathlib.Core.List.{[], _∷_}
 use mathlib.Core.Bool.{cond}
-use mathlib.Core.Path.{_≡_, ap, _∙_}
-use Prim.Native.Nat.{ℕ, _+_, _≤_}
+use mathlib.Core.Path.{ap, _∙_}
+use Prim.Native.Nat.{ℕ}
 use Rattle.command_fields.proofs.put_block.Statement.{statement}
 use Rattle.command_fields.proofs.put_block.Tie as tie
-use Rattle.command_fields.proofs.put_block.Reads as reads
-use Rattle.command_fields.proofs.put_block.Lts as lts
-use Rattle.read_command.proofs.is_named.Reads as is-named-reads
-use Rattle.command_fields.proofs.kind_letter.Reads as kind-letter-reads
-use Rattle.command_fields.proofs.put_byte.Reads as put-byte-reads
-use Rattle.command_fields.proofs.put_places.Reads as put-places-reads
 
--- src/lib.rt:132:9
 is-named-requires : tie.Need-is-named-requires
 is-named-requires c κs = search needs
 
--- src/lib.rt:133:34
 kind-letter-requires : tie.Need-kind-letter-requires
 kind-letter-requires c κs = search needs
 
--- src/lib.rt:133:9
 put-byte-requires : tie.Need-put-byte-requires
 put-byte-requires c κs = let a = c .before .before .before .before .before .before .before .args in let ts = now (a .toks) in let cs = now (a .contents) in let ls = now (a .bases) in let old = now (a .out) in block-room ts cs ls (a .first) (c .before .before .is-named .ensures) (length old) (c .before .before .before .before .before .before .before .pre)
 
@@ -37,19 +29,15 @@ put-byte-requires c κs = let a = c .before .before .before .before .before .bef
 wrote : (c : tie.After-put-byte) → Wrote (fieldBytes (field 2 (cond (c .before .before .before .is-named .result) (byte "N") (byte "P") ∷ []))) (c .put-byte .result) (now (c .before .before .before .before .before .before .before .before .args .out)) (c .put-byte .last .0)
 wrote c = let e = c .put-byte .ensures in (e .0, e .1 ∙ ap (λ (l : ℕ). over (fieldBytes (field 2 (l ∷ []))) (now (c .before .before .before .before .before .before .before .before .args .out))) (c .before .kind-letter .ensures))
 
--- src/lib.rt:134:24
 sub-put-places : tie.Need-sub-put-places
 sub-put-places c = wrote-inside (fieldBytes (field 2 (cond (c .before .before .before .before .before .is-named .result) (byte "N") (byte "P") ∷ []))) (now (c .before .before .before .before .before .before .before .before .before .before .args .out)) (wrote (c .before .before))
 
--- src/lib.rt:134:24
 part-put-places-start : tie.Need-part-put-places-start
 part-put-places-start c = omega (arith, wrote-inside (fieldBytes (field 2 (cond (c .before .before .before .before .before .is-named .result) (byte "N") (byte "P") ∷ []))) (now (c .before .before .before .before .before .before .before .before .before .before .args .out)) (wrote (c .before .before)))
 
--- src/lib.rt:134:24
 part-put-places-end : tie.Need-part-put-places-end
 part-put-places-end c = search needs
 
--- src/lib.rt:134:9
 put-places-requires : tie.Need-put-places-requires
 put-places-requires c κs = let a = c .before .before .before .before .before .before .before .before .before .before .before .args in let ts = now (a .toks) in let cs = now (a .contents) in let ls = now (a .bases) in let old = now (a .out) in block-places ts cs ls (a .first) (c .before .before .before .before .before .before .is-named .ensures) old (wrote (c .before .before .before)) (c .before .before .before .before .before .before .before .before .before .before .before .pre)
 
@@ -57,15 +45,12 @@ put-places-requires c κs = let a = c .before .before .before .before .before .b
 put : tie.Need-returns
 put c = let a = c .before .before .before .before .before .before .before .before .before .before .before .before .before .before .before .args in let ts = now (a .toks) in let cs = now (a .contents) in let ls = now (a .bases) in let old = now (a .out) in block-put ts cs ls (a .first) (c .before .before .before .before .before .before .before .before .before .before .is-named .ensures) old (wrote (c .before .before .before .before .before .before .before)) (c .before .before .before .put-places .ensures)
 
--- src/lib.rt:135:18
 add-t13 : tie.Need-add-t13
 add-t13 c = let a = c .before .before .before .before .before .before .before .before .before .before .before .before .before .before .before .args in let ts = now (a .toks) in let cs = now (a .contents) in let ls = now (a .bases) in let old = now (a .out) in let w = c .before .before .before .before .before .before .before .before .before .before .before .before .before .before .before .pre in omega (arith, (put c) (w .end) (w .b) (w .is) .1 .0, w .fits, c .before .before .before .before .before .before .before .before .before .before .before .before .before .before .before .good .0 .0)
 
--- src/lib.rt:128:1
 same-length : tie.Need-same-length
 same-length c = search needs
 
--- src/lib.rt:128:1
 returns : tie.Need-returns
 returns c = put c
 

@@ -1,3 +1,4 @@
+-- `put_command` meets its contract: the tokens before the first `;` are the rule's command.
 use borrow.Author.Needs.{needs}
 use Rattle.command_fields.proofs.BlockLaws.{command-inside, command-segments, command-put}
 use denote.Ref.{now}
@@ -6,28 +7,19 @@ use lib.ListN.{length}
 use mathlib.Core.Path.{sym}
 use Rattle.command_fields.proofs.put_command.Statement.{statement}
 use Rattle.command_fields.proofs.put_command.Tie as tie
-use Rattle.command_fields.proofs.put_command.Reads as reads
-use Rattle.command_fields.proofs.put_command.Lts as lts
-use Rattle.token_table.proofs.find.Reads as find-reads
-use Rattle.command_fields.proofs.put_segments.Reads as put-segments-reads
 
--- src/lib.rt:171:9
 find-requires : tie.Need-find-requires
 find-requires c κs = search needs
 
--- src/lib.rt:172:23
 slice-aggregate-put-segments : tie.Need-slice-aggregate-put-segments
 slice-aggregate-put-segments c = let a = c .before .before .before .before .before .before .before .args in let ts = now (a .toks) in let cs = now (a .contents) in let ls = now (a .bases) in let old = now (a .out) in sym (length-take-le (c .before .before .find .result) ts (command-inside ts cs ls (c .before .before .find .ensures) (length old) (c .before .before .before .before .before .before .before .pre)))
 
--- src/lib.rt:172:5
 put-segments-requires : tie.Need-put-segments-requires
 put-segments-requires c κs = let a = c .before .before .before .before .before .before .before .args in let ts = now (a .toks) in let cs = now (a .contents) in let ls = now (a .bases) in let old = now (a .out) in command-segments ts cs ls (c .before .before .find .ensures) (length old) (c .before .before .before .before .before .before .before .pre)
 
--- src/lib.rt:167:1
 same-length : tie.Need-same-length
 same-length c = search needs
 
--- src/lib.rt:167:1
 returns : tie.Need-returns
 returns c = let a = c .before .before .before .before .before .before .before .before .before .before .args in let ts = now (a .toks) in let cs = now (a .contents) in let ls = now (a .bases) in let old = now (a .out) in command-put ts cs ls (c .before .before .before .before .before .find .ensures) (c .before .before .put-segments .ensures)
 

@@ -1,3 +1,4 @@
+-- `put_name` meets its contract: the pieces before the `=` are written, then the value behind them.
 use borrow.Author.Needs.{needs}
 use Rattle.command_fields.proofs.PlaceLaws.{wrote-inside}
 use Rattle.command_fields.proofs.PlaceLaws.{pieces-wrote, name-inside, name-room, name-value, name-put}
@@ -10,16 +11,10 @@ use mathlib.Core.Bool.{true}
 use mathlib.Core.Path.{sym}
 use lib.Seq.{length-take-le}
 use lib.ListN.{length, take}
-use Prim.Native.Nat.{_+_, _<_, _≤_}
+use Prim.Native.Nat.{_+_, _<_}
 use Rattle.command_fields.proofs.put_name.Statement.{statement}
 use Rattle.command_fields.proofs.put_name.Tie as tie
-use Rattle.command_fields.proofs.put_name.Reads as reads
-use Rattle.command_fields.proofs.put_name.Lts as lts
-use Rattle.token_table.proofs.find.Reads as find-reads
-use Rattle.command_fields.proofs.put_pieces.Reads as put-pieces-reads
-use Rattle.value_fields.proofs.put_value.Reads as put-value-reads
 
--- src/lib.rt:79:9
 find-requires : tie.Need-find-requires
 find-requires c κs = search needs
 
@@ -31,47 +26,36 @@ inside c = let a = c .before .before .before .before .args in let ts = now (a .t
 wrote : (c : tie.After-put-pieces) → let a = c .before .before .before .before .before .before .before .args in let ts = now (a .toks) in let cs = now (a .contents) in let l = a .base in let old = now (a .out) in Wrote (wordBytes 4 (wordsIn true cs (take (c .before .before .before .find .result) ts))) (c .put-pieces .result) old (c .put-pieces .last .0)
 wrote c = let a = c .before .before .before .before .before .before .before .args in let ts = now (a .toks) in let cs = now (a .contents) in let l = a .base in let old = now (a .out) in pieces-wrote 4 (wordsIn true cs (take (c .before .before .before .find .result) ts)) old (c .put-pieces .ensures)
 
--- src/lib.rt:80:35
 slice-aggregate-put-pieces : tie.Need-slice-aggregate-put-pieces
 slice-aggregate-put-pieces c = let a = c .before .before .before .before .before .before .args in let ts = now (a .toks) in let cs = now (a .contents) in let l = a .base in let old = now (a .out) in let h = name-inside ts cs l (c .before .before .find .result) (c .before .before .find .ensures) (length old) (c .before .before .before .before .before .before .pre) in sym (length-take-le (c .before .before .find .result) ts (omega arith))
 
--- src/lib.rt:80:9
 put-pieces-requires : tie.Need-put-pieces-requires
 put-pieces-requires c κs = let a = c .before .before .before .before .before .before .args in let ts = now (a .toks) in let cs = now (a .contents) in let l = a .base in let old = now (a .out) in name-room ts cs l (c .before .before .find .result) (c .before .before .find .ensures) (length old) (c .before .before .before .before .before .before .pre)
 
--- src/lib.rt:81:27
 sub-put-value : tie.Need-sub-put-value
 sub-put-value c = let a = c .before .before .before .before .before .before .before .before .before .args in let ts = now (a .toks) in let cs = now (a .contents) in let l = a .base in let old = now (a .out) in wrote-inside (wordBytes 4 (wordsIn true cs (take (c .before .before .before .before .before .find .result) ts))) old (wrote (c .before .before))
 
--- src/lib.rt:81:27
 part-put-value-start : tie.Need-part-put-value-start
 part-put-value-start c = let a = c .before .before .before .before .before .before .before .before .before .args in let ts = now (a .toks) in let cs = now (a .contents) in let l = a .base in let old = now (a .out) in omega (arith, wrote-inside (wordBytes 4 (wordsIn true cs (take (c .before .before .before .before .before .find .result) ts))) old (wrote (c .before .before)))
 
--- src/lib.rt:81:27
 part-put-value-end : tie.Need-part-put-value-end
 part-put-value-end c = search needs
 
--- src/lib.rt:81:48
 add-put-value : tie.Need-add-put-value
 add-put-value c = omega (arith, inside (c .before .before .before .before .before .before))
 
--- src/lib.rt:81:42
 mul-put-value : tie.Need-mul-put-value
 mul-put-value c = omega (arith, inside (c .before .before .before .before .before .before), c .before .before .before .before .before .before .before .before .before .before .good .1 .0 .1)
 
--- src/lib.rt:81:42
 sub-put-value-2 : tie.Need-sub-put-value-2
 sub-put-value-2 c = omega (arith, inside (c .before .before .before .before .before .before))
 
--- src/lib.rt:81:42
 part-put-value-start-2 : tie.Need-part-put-value-start-2
 part-put-value-start-2 c = omega (arith, inside (c .before .before .before .before .before .before))
 
--- src/lib.rt:81:42
 part-put-value-end-2 : tie.Need-part-put-value-end-2
 part-put-value-end-2 c = search needs
 
--- src/lib.rt:81:9
 put-value-requires : tie.Need-put-value-requires
 put-value-requires c κs = let a = c .before .before .before .before .before .before .before .before .before .before .before .args in let ts = now (a .toks) in let cs = now (a .contents) in let l = a .base in let old = now (a .out) in rw (part-from ts (c .before .before .before .before .before .before .before .find .result + 1)) (name-value ts cs l (c .before .before .before .before .before .before .before .find .result) (c .before .before .before .before .before .before .before .find .ensures) old (c .before .before .before .before .before .before .before .before .before .before .before .pre) (wrote (c .before .before .before .before)))
 
@@ -79,15 +63,12 @@ put-value-requires c κs = let a = c .before .before .before .before .before .be
 put : tie.Need-returns
 put c = let a = c .before .before .before .before .before .before .before .before .before .before .before .before .before .before .args in let ts = now (a .toks) in let cs = now (a .contents) in let l = a .base in let old = now (a .out) in name-put ts cs l (c .before .before .before .before .before .before .before .before .before .before .find .result) (c .before .before .before .before .before .before .before .before .before .before .find .ensures) old (wrote (c .before .before .before .before .before .before .before)) (rw (part-from ts (c .before .before .before .before .before .before .before .before .before .before .find .result + 1)) at (c .before .before .put-value .ensures))
 
--- src/lib.rt:81:5
 add-result : tie.Need-add-result
 add-result c = let a = c .before .before .before .before .before .before .before .before .before .before .before .before .before .before .args in let ts = now (a .toks) in let cs = now (a .contents) in let l = a .base in let old = now (a .out) in let w = c .before .before .before .before .before .before .before .before .before .before .before .before .before .before .pre in omega (arith, (put c) (w .base) (w .names) (w .end) (w .x) (w .own) (w .is) .0, w .fits, c .before .before .before .before .before .before .before .before .before .before .before .before .before .before .good .0 .0)
 
--- src/lib.rt:75:1
 same-length : tie.Need-same-length
 same-length c = search needs
 
--- src/lib.rt:75:1
 returns : tie.Need-returns
 returns c = put c
 

@@ -1,3 +1,4 @@
+-- `put_pieces` meets its contract: at every turn the fields written so far stand over the buffer's start, and those of the words from here on fit behind them.
 use borrow.Author.Needs.{needs}
 use Rattle.laws.specs.Over.{length-part}
 use Rattle.command_fields.proofs.WritingLaws.{Piecing, writing-none, piecing-long, piecing-room, piecing-more, piecing-all}
@@ -7,9 +8,6 @@ use lib.ListN.{length}
 use Prim.Native.Nat.{_-_}
 use Rattle.command_fields.proofs.put_pieces.Statement.{statement}
 use Rattle.command_fields.proofs.put_pieces.Tie as tie
-use Rattle.command_fields.proofs.put_pieces.Reads as reads
-use Rattle.command_fields.proofs.put_pieces.Lts as lts
-use Rattle.command_fields.proofs.put_token.Reads as put-token-reads
 
 abbrev Inv-loop : tie.InvT-loop
 Inv-loop out₀ tag toks contents i₀ k₀ out i k = Piecing tag contents toks out₀ i k out
@@ -17,55 +15,42 @@ Inv-loop out₀ tag toks contents i₀ k₀ out i k = Piecing tag contents toks 
 abbrev μ-loop : tie.MeasureT-loop
 μ-loop out₀ tag toks contents i₀ k₀ out i k = length toks - i
 
--- src/lib.rt:58:5
 loop-holds : tie.Need-loop-holds Inv-loop μ-loop
 loop-holds c = writing-none _ _
 
--- src/lib.rt:59:24
 sub-put-token : tie.Need-sub-put-token Inv-loop μ-loop
 sub-put-token c = let a = c .before .before .before .before .before .args in let l = c .before .loop in omega (arith, piecing-long (a .tag) (now (a .contents)) (now (a .toks)) (now (a .out)) (l .i) (l .k) (l .out) (l .inv) (c .before .before .before .before .before .pre), piecing-room (a .tag) (now (a .contents)) (now (a .toks)) (now (a .out)) (l .i) (l .k) (l .out) (l .inv) (c .loop-test .taken) (c .before .before .before .before .before .pre))
 
--- src/lib.rt:59:24
 part-put-token-start : tie.Need-part-put-token-start Inv-loop μ-loop
 part-put-token-start c = let a = c .before .before .before .before .before .args in let l = c .before .loop in omega (arith, piecing-long (a .tag) (now (a .contents)) (now (a .toks)) (now (a .out)) (l .i) (l .k) (l .out) (l .inv) (c .before .before .before .before .before .pre), piecing-room (a .tag) (now (a .contents)) (now (a .toks)) (now (a .out)) (l .i) (l .k) (l .out) (l .inv) (c .loop-test .taken) (c .before .before .before .before .before .pre))
 
--- src/lib.rt:59:24
 part-put-token-end : tie.Need-part-put-token-end Inv-loop μ-loop
 part-put-token-end c = search needs
 
--- src/lib.rt:59:54
 mul-put-token : tie.Need-mul-put-token Inv-loop μ-loop
 mul-put-token c = search needs
 
--- src/lib.rt:59:54
 shared-slice-read-put-token : tie.Need-shared-slice-read-put-token Inv-loop μ-loop
 shared-slice-read-put-token c = search needs
 
--- src/lib.rt:59:14
 put-token-requires : tie.Need-put-token-requires Inv-loop μ-loop
 put-token-requires c κs = let a = c .before .before .before .before .before .before .before .args in let l = c .before .before .before .loop in omega (arith, piecing-long (a .tag) (now (a .contents)) (now (a .toks)) (now (a .out)) (l .i) (l .k) (l .out) (l .inv) (c .before .before .before .before .before .before .before .pre), piecing-room (a .tag) (now (a .contents)) (now (a .toks)) (now (a .out)) (l .i) (l .k) (l .out) (l .inv) (c .before .before .loop-test .taken) (c .before .before .before .before .before .before .before .pre), length-part (l .out) (l .k))
 
--- src/lib.rt:59:9
 add-k : tie.Need-add-k Inv-loop μ-loop
 add-k c = let a = c .before .before .before .before .before .before .before .before .before .before .args in let l = c .before .before .before .before .before .before .loop in omega (arith, piecing-room (a .tag) (now (a .contents)) (now (a .toks)) (now (a .out)) (l .i) (l .k) (l .out) (l .inv) (c .before .before .before .before .before .loop-test .taken) (c .before .before .before .before .before .before .before .before .before .before .pre), c .before .before .put-token .ensures .0, c .before .before .before .before .before .before .before .before .before .before .good .0 .0)
 
--- src/lib.rt:60:9
 add-i : tie.Need-add-i Inv-loop μ-loop
 add-i c = search needs
 
--- src/lib.rt:58:5
 loop-less : tie.Need-loop-less Inv-loop μ-loop
 loop-less c = search needs
 
--- src/lib.rt:58:5
 loop-again : tie.Need-loop-again Inv-loop μ-loop
 loop-again c = let a = c .before .before .before .before .before .before .before .before .before .before .args in let l = c .before .before .before .before .before .before .loop in piecing-more (a .tag) (now (a .contents)) (now (a .toks)) (now (a .out)) (l .i) (l .k) (l .out) (l .inv) (c .before .before .before .before .before .loop-test .taken) (c .before .before .put-token .ensures .0) (c .before .before .put-token .ensures .1)
 
--- src/lib.rt:51:1
 same-length : tie.Need-same-length Inv-loop μ-loop
 same-length c = let a = c .before .before .before .before .before .args in let l = c .before .loop in piecing-long (a .tag) (now (a .contents)) (now (a .toks)) (now (a .out)) (l .i) (l .k) (l .out) (l .inv) (c .before .before .before .before .before .pre)
 
--- src/lib.rt:51:1
 returns : tie.Need-returns Inv-loop μ-loop
 returns c = let a = c .before .before .before .before .before .args in let l = c .before .loop in piecing-all (a .tag) (now (a .contents)) (now (a .toks)) (now (a .out)) (l .i) (l .k) (l .out) (l .inv) (c .loop-test .left)
 

@@ -1,3 +1,4 @@
+-- `put_segments` meets its contract: the code is written, then the blocks behind it.
 use borrow.Author.Needs.{needs}
 use Rattle.command_fields.proofs.BlockLaws.{code-room, segments-blocks, segments-put}
 use Rattle.command_fields.proofs.PlaceLaws.{pieces-wrote, wrote-inside}
@@ -10,16 +11,10 @@ use lib.Seq.{length-take-le}
 use lib.ListN.{length, take}
 use mathlib.Core.Bool.{true}
 use mathlib.Core.Path.{sym}
-use Prim.Native.Nat.{_+_, _≤_}
+use Prim.Native.Nat.{_≤_}
 use Rattle.command_fields.proofs.put_segments.Statement.{statement}
 use Rattle.command_fields.proofs.put_segments.Tie as tie
-use Rattle.command_fields.proofs.put_segments.Reads as reads
-use Rattle.command_fields.proofs.put_segments.Lts as lts
-use Rattle.token_table.proofs.find.Reads as find-reads
-use Rattle.command_fields.proofs.put_blocks.Reads as put-blocks-reads
-use Rattle.command_fields.proofs.put_pieces.Reads as put-pieces-reads
 
--- src/lib.rt:161:9
 find-requires : tie.Need-find-requires
 find-requires c κs = search needs
 
@@ -31,31 +26,24 @@ inside c = found-inside (now (c .before .before .before .before .before .args .t
 wrote : (c : tie.After-put-pieces) → let a = c .before .before .before .before .before .before .before .before .args in let ts = now (a .toks) in let cs = now (a .contents) in let ls = now (a .bases) in let old = now (a .out) in Wrote (wordBytes 1 (wordsIn true cs (take (c .before .before .before .find .result) ts))) (c .put-pieces .result) old (c .put-pieces .last .0)
 wrote c = let a = c .before .before .before .before .before .before .before .before .args in let ts = now (a .toks) in let cs = now (a .contents) in let ls = now (a .bases) in let old = now (a .out) in pieces-wrote 1 (wordsIn true cs (take (c .before .before .before .find .result) ts)) old (c .put-pieces .ensures)
 
--- src/lib.rt:162:35
 slice-aggregate-put-pieces : tie.Need-slice-aggregate-put-pieces
 slice-aggregate-put-pieces c = sym (length-take-le (c .before .before .find .result) (now (c .before .before .before .before .before .before .before .args .toks)) (inside (c .before .before)))
 
--- src/lib.rt:162:9
 put-pieces-requires : tie.Need-put-pieces-requires
 put-pieces-requires c κs = let a = c .before .before .before .before .before .before .before .args in let ts = now (a .toks) in let cs = now (a .contents) in let ls = now (a .bases) in let old = now (a .out) in code-room ts cs ls (c .before .before .find .ensures) (length old) (c .before .before .before .before .before .before .before .pre)
 
--- src/lib.rt:163:20
 sub-put-blocks : tie.Need-sub-put-blocks
 sub-put-blocks c = let a = c .before .before .before .before .before .before .before .before .before .before .args in let ts = now (a .toks) in let cs = now (a .contents) in let ls = now (a .bases) in let old = now (a .out) in wrote-inside (wordBytes 1 (wordsIn true cs (take (c .before .before .before .before .before .find .result) ts))) old (wrote (c .before .before))
 
--- src/lib.rt:163:20
 part-put-blocks-start : tie.Need-part-put-blocks-start
 part-put-blocks-start c = let a = c .before .before .before .before .before .before .before .before .before .before .args in let ts = now (a .toks) in let cs = now (a .contents) in let ls = now (a .bases) in let old = now (a .out) in omega (arith, wrote-inside (wordBytes 1 (wordsIn true cs (take (c .before .before .before .before .before .find .result) ts))) old (wrote (c .before .before)))
 
--- src/lib.rt:163:20
 part-put-blocks-end : tie.Need-part-put-blocks-end
 part-put-blocks-end c = search needs
 
--- src/lib.rt:163:58
 add-put-blocks : tie.Need-add-put-blocks
 add-put-blocks c = omega (arith, inside (c .before .before .before .before .before .before), c .before .before .before .before .before .before .before .before .before .before .before .good .1 .0 .1)
 
--- src/lib.rt:163:9
 put-blocks-requires : tie.Need-put-blocks-requires
 put-blocks-requires c κs = let a = c .before .before .before .before .before .before .before .before .before .before .before .args in let ts = now (a .toks) in let cs = now (a .contents) in let ls = now (a .bases) in let old = now (a .out) in segments-blocks ts cs ls (c .before .before .before .before .before .before .find .ensures) old (wrote (c .before .before .before)) (c .before .before .before .before .before .before .before .before .before .before .before .pre)
 
@@ -63,15 +51,12 @@ put-blocks-requires c κs = let a = c .before .before .before .before .before .b
 put : tie.Need-returns
 put c = let a = c .before .before .before .before .before .before .before .before .before .before .before .before .before .before .args in let ts = now (a .toks) in let cs = now (a .contents) in let ls = now (a .bases) in let old = now (a .out) in segments-put ts cs ls (c .before .before .before .before .before .before .before .before .before .find .ensures) old (wrote (c .before .before .before .before .before .before)) (c .before .before .put-blocks .ensures)
 
--- src/lib.rt:163:5
 add-result : tie.Need-add-result
 add-result c = let a = c .before .before .before .before .before .before .before .before .before .before .before .before .before .before .args in let ts = now (a .toks) in let cs = now (a .contents) in let ls = now (a .bases) in let old = now (a .out) in let w = c .before .before .before .before .before .before .before .before .before .before .before .before .before .before .pre in omega (arith, (put c) (w .end) (w .c) (w .is) .0, w .fits, c .before .before .before .before .before .before .before .before .before .before .before .before .before .before .good .0 .0)
 
--- src/lib.rt:157:1
 same-length : tie.Need-same-length
 same-length c = search needs
 
--- src/lib.rt:157:1
 returns : tie.Need-returns
 returns c = put c
 

@@ -1,3 +1,4 @@
+-- `put_token` meets its contract: what start and end cut out is the token's content.
 use borrow.Author.Needs.{needs}
 use Rattle.rules.specs.Records.{field, fieldBytes}
 use Rattle.laws.specs.Over.{over}
@@ -7,21 +8,14 @@ use lib.ListN.{length}
 use Rattle.token_table.proofs.ContentLaws.{Cuts, cuts}
 use native.Mathlib.Omega.{arith}
 use denote.Ref.{now}
-use mathlib.Core.Path.{_≡_, ap, _∙_}
+use mathlib.Core.Path.{ap, _∙_}
 use Prim.Native.Nat.{_+_}
 use Rattle.command_fields.proofs.put_token.Statement.{statement}
 use Rattle.command_fields.proofs.put_token.Tie as tie
-use Rattle.command_fields.proofs.put_token.Reads as reads
-use Rattle.command_fields.proofs.put_token.Lts as lts
-use Rattle.fields.proofs.put_field.Reads as put-field-reads
-use Rattle.token_table.proofs.end.Reads as end-reads
-use Rattle.token_table.proofs.start.Reads as start-reads
 
--- src/lib.rt:45:9
 start-requires : tie.Need-start-requires
 start-requires c κs = search needs
 
--- src/lib.rt:46:9
 end-requires : tie.Need-end-requires
 end-requires c κs = search needs
 
@@ -29,27 +23,21 @@ end-requires c κs = search needs
 cut : (c : tie.After-end) → Cuts (now (c .before .before .before .before .args .contents)) (c .before .before .before .before .args .t) (c .before .start .result) (c .end .result)
 cut c = cuts (now (c .before .before .before .before .args .contents)) (c .before .before .before .before .args .t) (c .before .start .ensures) (c .end .ensures)
 
--- src/lib.rt:47:33
 sub-put-field : tie.Need-sub-put-field
 sub-put-field c = omega (arith, cut (c .before))
 
--- src/lib.rt:47:33
 part-put-field-start : tie.Need-part-put-field-start
 part-put-field-start c = omega (arith, cut (c .before))
 
--- src/lib.rt:47:33
 part-put-field-end : tie.Need-part-put-field-end
 part-put-field-end c = omega (arith, cut (c .before))
 
--- src/lib.rt:47:5
 put-field-requires : tie.Need-put-field-requires
 put-field-requires c κs = let e = cut (c .before .before) in let z = ap length (e .is) in (omega arith, omega (arith, c .before .before .before .before .before .before .pre))
 
--- src/lib.rt:40:1
 same-length : tie.Need-same-length
 same-length c = search needs
 
--- src/lib.rt:40:1
 returns : tie.Need-returns
 returns c = let a = c .before .before .before .before .before .before .before .before .before .args in let z = (cut (c .before .before .before .before .before)) .is in let e = c .before .before .put-field .ensures in (e .0 ∙ ap (λ (w : List ℕ). 3 + length w) z, e .1 ∙ ap (λ (w : List ℕ). over (fieldBytes (field (a .tag) w)) (now (a .out))) z)
 

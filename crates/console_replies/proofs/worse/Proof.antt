@@ -5,9 +5,6 @@ use native.Mathlib.Omega.{arith}
 use Rattle.console_replies.specs.Outcomes.{told}
 use Rattle.console_replies.proofs.worse.Statement.{statement}
 use Rattle.console_replies.proofs.worse.Tie as tie
-use Rattle.console_replies.proofs.worse.Reads as reads
-use Rattle.console_replies.proofs.worse.Lts as lts
-use Rattle.console_replies.proofs.digit.Reads as digit-reads
 
 digit-requires : tie.Need-digit-requires
 digit-requires c κs = search needs

@@ -2,9 +2,6 @@
 use borrow.Author.Needs.{needs}
 use Rattle.console_typing.proofs.meant.Statement.{statement}
 use Rattle.console_typing.proofs.meant.Tie as tie
-use Rattle.console_typing.proofs.meant.Reads as reads
-use Rattle.console_typing.proofs.meant.Lts as lts
-use Rattle.console_typing.proofs.typed.Reads as typed-reads
 
 enum-told : tie.Need-enum-told
 enum-told c = search needs

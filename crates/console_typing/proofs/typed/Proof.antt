@@ -2,8 +2,6 @@
 use borrow.Author.Tests.{ne-eqb}
 use Rattle.console_typing.proofs.typed.Statement.{statement}
 use Rattle.console_typing.proofs.typed.Tie as tie
-use Rattle.console_typing.proofs.typed.Reads as reads
-use Rattle.console_typing.proofs.typed.Lts as lts
 
 returns : tie.Need-returns
 returns c = rw (c .match .keys1)

@@ -1,6 +1,6 @@
 -- `hint_size::times` is safe: a product that would pass 64 bits is not worked out.
 -- Assumes nothing.
-use Prim.Native.Nat.{_≤_, _<_, _*_, _/_, _-_, _^_}
+use Prim.Native.Nat.{_≤_, _<_, _/_, _-_, _^_}
 use borrow.Author.Needs.{needs}
 use native.Mathlib.Omega.{arith}
 use native.Mathlib.Nat.{le-div-iff-mul-le}

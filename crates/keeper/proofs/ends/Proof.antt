@@ -3,9 +3,6 @@ use borrow.Author.Needs.{needs}
 use Rattle.keeper.proofs.SpotLaws.{here-semi, here-other}
 use Rattle.keeper.proofs.ends.Statement.{statement}
 use Rattle.keeper.proofs.ends.Tie as tie
-use Rattle.keeper.proofs.ends.Reads as reads
-use Rattle.keeper.proofs.ends.Lts as lts
-use Rattle.keeper.proofs.is_outside.Reads as is-outside-reads
 
 is-outside-requires : tie.Need-is-outside-requires
 is-outside-requires c κs = search needs

@@ -8,11 +8,6 @@ use Rattle.rules.specs.Keeping.{ready}
 use Rattle.keeper.proofs.SpotLaws.{endsAt, walk-start, walk-earlier, walk-more, walk-end}
 use Rattle.keeper.proofs.ends_first.Statement.{statement}
 use Rattle.keeper.proofs.ends_first.Tie as tie
-use Rattle.keeper.proofs.ends_first.Reads as reads
-use Rattle.keeper.proofs.ends_first.Lts as lts
-use Rattle.keeper.proofs.ends.Reads as ends-reads
-use Rattle.keeper.proofs.is_outside.Reads as is-outside-reads
-use Rattle.keeper.proofs.turn.Reads as turn-reads
 
 abbrev Inv-loop : tie.InvT-loop
 Inv-loop bytes last spot₀ i₀ spot i = (ready (take (last + 1) bytes) ≡ endsAt spot bytes last i) × (i ≤ last)

@@ -3,9 +3,6 @@ use borrow.Author.Needs.{needs}
 use Rattle.keeper.proofs.SpotLaws.{none-held, last-semi, last-other}
 use Rattle.keeper.proofs.is_ready.Statement.{statement}
 use Rattle.keeper.proofs.is_ready.Tie as tie
-use Rattle.keeper.proofs.is_ready.Reads as reads
-use Rattle.keeper.proofs.is_ready.Lts as lts
-use Rattle.keeper.proofs.ends_first.Reads as ends-first-reads
 
 returns : tie.Need-returns
 returns c = search (needs, none-held)

@@ -4,13 +4,6 @@ use native.Mathlib.Omega.{arith}
 use Rattle.keeper.proofs.KeyLaws.{key-over, key-cancel, key-back, key-full, key-held, start-most}
 use Rattle.keeper.proofs.key.Statement.{statement}
 use Rattle.keeper.proofs.key.Tie as tie
-use Rattle.keeper.proofs.key.Reads as reads
-use Rattle.keeper.proofs.key.Lts as lts
-use Rattle.keeper.proofs.is_ready.Reads as is-ready-reads
-use Rattle.keeper.proofs.less_one.Reads as less-one-reads
-use Rattle.keeper.proofs.not_taken.Reads as not-taken-reads
-use Rattle.keeper.proofs.start.Reads as start-reads
-use Rattle.keeper.proofs.taken.Reads as taken-reads
 
 not-taken-requires : tie.Need-not-taken-requires
 not-taken-requires c κs = search needs

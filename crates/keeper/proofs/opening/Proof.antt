@@ -1,10 +1,7 @@
 -- `keeper::opening`: each key of the match by its number, and the rest by none of them.
-use borrow.Author.Needs.{needs}
-use borrow.Author.Tests.{eq-eqb, ne-eqb}
+use borrow.Author.Tests.{ne-eqb}
 use Rattle.keeper.proofs.opening.Statement.{statement}
 use Rattle.keeper.proofs.opening.Tie as tie
-use Rattle.keeper.proofs.opening.Reads as reads
-use Rattle.keeper.proofs.opening.Lts as lts
 
 returns : tie.Need-returns
 returns c = rw (c .match .keys1)

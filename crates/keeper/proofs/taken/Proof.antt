@@ -5,10 +5,6 @@ use Rattle.rules.specs.Keeping.{flag}
 use mathlib.Core.Path.{ap, _∙_}
 use Rattle.keeper.proofs.taken.Statement.{statement}
 use Rattle.keeper.proofs.taken.Tie as tie
-use Rattle.keeper.proofs.taken.Reads as reads
-use Rattle.keeper.proofs.taken.Lts as lts
-use Rattle.keeper.proofs.flagged.Reads as flagged-reads
-use Rattle.keeper.proofs.is_ready.Reads as is-ready-reads
 
 is-ready-requires : tie.Need-is-ready-requires
 is-ready-requires c κs = search needs

@@ -3,9 +3,6 @@ use borrow.Author.Needs.{needs}
 use borrow.Author.Tests.{eq-eqb, ne-eqb}
 use Rattle.keeper.proofs.turn.Statement.{statement}
 use Rattle.keeper.proofs.turn.Tie as tie
-use Rattle.keeper.proofs.turn.Reads as reads
-use Rattle.keeper.proofs.turn.Lts as lts
-use Rattle.keeper.proofs.opening.Reads as opening-reads
 
 enum-told : tie.Need-enum-told
 enum-told c = search needs

@@ -3,9 +3,6 @@ use Rattle.marks.specs.Marks.{added}
 use borrow.Author.Needs.{needs}
 use Rattle.marks.proofs.add.Statement.{statement}
 use Rattle.marks.proofs.add.Tie as tie
-use Rattle.marks.proofs.add.Reads as reads
-use Rattle.marks.proofs.add.Lts as lts
-use Rattle.marks.proofs.with_bit.Reads as with-bit-reads
 
 with-bit-requires : tie.Need-with-bit-requires
 with-bit-requires c κs = search needs

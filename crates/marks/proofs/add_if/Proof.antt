@@ -2,9 +2,6 @@
 use borrow.Author.Needs.{needs}
 use Rattle.marks.proofs.add_if.Statement.{statement}
 use Rattle.marks.proofs.add_if.Tie as tie
-use Rattle.marks.proofs.add_if.Reads as reads
-use Rattle.marks.proofs.add_if.Lts as lts
-use Rattle.marks.proofs.add.Reads as add-reads
 
 add-requires : tie.Need-add-requires
 add-requires c κs = search needs

@@ -5,9 +5,6 @@ use Rattle.marks.proofs.MarkLaws.{both-yes, both-no}
 use borrow.Author.Needs.{needs}
 use Rattle.marks.proofs.has.Statement.{statement}
 use Rattle.marks.proofs.has.Tie as tie
-use Rattle.marks.proofs.has.Reads as reads
-use Rattle.marks.proofs.has.Lts as lts
-use Rattle.marks.proofs.has_both.Reads as has-both-reads
 
 has-both-requires : tie.Need-has-both-requires
 has-both-requires c κs = search needs

@@ -5,9 +5,6 @@ use Rattle.marks.proofs.MarkLaws.{both-yes, both-no}
 use borrow.Author.Needs.{needs}
 use Rattle.marks.proofs.has_both.Statement.{statement}
 use Rattle.marks.proofs.has_both.Tie as tie
-use Rattle.marks.proofs.has_both.Reads as reads
-use Rattle.marks.proofs.has_both.Lts as lts
-use Rattle.marks.proofs.has_bit.Reads as has-bit-reads
 
 has-bit-requires : tie.Need-has-bit-requires
 has-bit-requires c κs = search needs

@@ -6,10 +6,6 @@ use Rattle.marks.specs.Marks.{keyOf}
 use borrow.Author.Needs.{needs}
 use Rattle.marks.proofs.key.Statement.{statement}
 use Rattle.marks.proofs.key.Tie as tie
-use Rattle.marks.proofs.key.Reads as reads
-use Rattle.marks.proofs.key.Lts as lts
-use Rattle.marks.proofs.but_one.Reads as but-one-reads
-use Rattle.marks.proofs.mixed.Reads as mixed-reads
 
 returns : tie.Need-returns
 unfolding keyOf

@@ -7,8 +7,6 @@ use native.Mathlib.Omega.{arith}
 use denote.Ref.{now}
 use Rattle.marks.proofs.same.Statement.{statement}
 use Rattle.marks.proofs.same.Tie as tie
-use Rattle.marks.proofs.same.Reads as reads
-use Rattle.marks.proofs.same.Lts as lts
 
 abbrev Inv-loop : tie.InvT-loop
 Inv-loop a b i₀ i = Same a b i
@@ -16,39 +14,30 @@ Inv-loop a b i₀ i = Same a b i
 abbrev μ-loop : tie.MeasureT-loop
 μ-loop a b i₀ i = length a - i
 
--- src/lib.rt:53:9
 returns : tie.Need-returns Inv-loop μ-loop
 returns c = unlike (now (c .before .args .a)) (now (c .before .args .b)) (c .if1 .taken)
 
--- src/lib.rt:56:5
 loop-holds : tie.Need-loop-holds Inv-loop μ-loop
 loop-holds c = same-none (now (c .before .args .a)) (now (c .before .args .b)) (c .if1 .left)
 
--- src/lib.rt:57:12
 shared-slice-read-if2 : tie.Need-shared-slice-read-if2 Inv-loop μ-loop
 shared-slice-read-if2 c = search needs
 
--- src/lib.rt:57:20
 shared-slice-read-if2-2 : tie.Need-shared-slice-read-if2-2 Inv-loop μ-loop
 shared-slice-read-if2-2 c = search needs
 
--- src/lib.rt:58:13
 returns-2 : tie.Need-returns-2 Inv-loop μ-loop
 returns-2 c = same-stop (c .before .before .before .before .loop .inv) (c .before .before .before .loop-test .taken) (c .if2 .taken)
 
--- src/lib.rt:60:9
 add-i : tie.Need-add-i Inv-loop μ-loop
 add-i c = search needs
 
--- src/lib.rt:56:5
 loop-less : tie.Need-loop-less Inv-loop μ-loop
 loop-less c = omega arith
 
--- src/lib.rt:56:5
 loop-again : tie.Need-loop-again Inv-loop μ-loop
 loop-again c = same-more (c .before .before .before .before .loop .inv) (c .before .before .before .loop-test .taken) (c .if2 .left)
 
--- src/lib.rt:49:1
 returns-3 : tie.Need-returns-3 Inv-loop μ-loop
 returns-3 c = same-end (c .before .loop .inv) (c .loop-test .left)
 

@@ -5,8 +5,6 @@ use Rattle.marks.proofs.MarkLaws.{shifted}
 use borrow.Author.Needs.{needs}
 use Rattle.marks.proofs.with_bit.Statement.{statement}
 use Rattle.marks.proofs.with_bit.Tie as tie
-use Rattle.marks.proofs.with_bit.Reads as reads
-use Rattle.marks.proofs.with_bit.Lts as lts
 
 cast-result : tie.Need-cast-result
 cast-result c = search needs

@@ -1,3 +1,4 @@
+-- `letters` meets its contract: at every turn the letters from here on have the verdict of the whole list.
 use borrow.Author.Needs.{needs}
 use Rattle.read_bases.proofs.BaseLaws.{letters-end, letters-many, letters-wrong, letters-more}
 use native.Mathlib.Omega.{arith}
@@ -8,9 +9,6 @@ use lib.ListN.{length, drop}
 use Prim.Native.Nat.{_-_, _≤_}
 use Rattle.read_bases.proofs.letters.Statement.{statement}
 use Rattle.read_bases.proofs.letters.Tie as tie
-use Rattle.read_bases.proofs.letters.Reads as reads
-use Rattle.read_bases.proofs.letters.Lts as lts
-use Rattle.read_bases.proofs.is_letter.Reads as is-letter-reads
 
 abbrev Inv-loop : tie.InvT-loop
 Inv-loop bases i₀ i = (verdict (readLetters 0 bases) ≡ verdict (readLetters i (drop i bases))) × (i ≤ 32)
@@ -18,47 +16,36 @@ Inv-loop bases i₀ i = (verdict (readLetters 0 bases) ≡ verdict (readLetters 
 abbrev μ-loop : tie.MeasureT-loop
 μ-loop bases i₀ i = length bases - i
 
--- src/lib.rt:31:5
 loop-holds : tie.Need-loop-holds Inv-loop μ-loop
 loop-holds c = (refl, omega arith)
 
--- src/lib.rt:33:64
 cast-t5 : tie.Need-cast-t5 Inv-loop μ-loop
 cast-t5 c = search needs
 
--- src/lib.rt:33:13
 returns : tie.Need-returns Inv-loop μ-loop
 returns c = search (needs, letters-many)
 
--- src/lib.rt:35:22
 shared-slice-read-is-letter : tie.Need-shared-slice-read-is-letter Inv-loop μ-loop
 shared-slice-read-is-letter c = search needs
 
--- src/lib.rt:35:12
 is-letter-requires : tie.Need-is-letter-requires Inv-loop μ-loop
 is-letter-requires c κs = search needs
 
--- src/lib.rt:36:13
 add-i : tie.Need-add-i Inv-loop μ-loop
 add-i c = search needs
 
--- src/lib.rt:31:5
 loop-less : tie.Need-loop-less Inv-loop μ-loop
 loop-less c = search needs
 
--- src/lib.rt:31:5
 loop-again : tie.Need-loop-again Inv-loop μ-loop
 loop-again c = (search (needs, letters-more), search needs)
 
--- src/lib.rt:38:64
 cast-t9 : tie.Need-cast-t9 Inv-loop μ-loop
 cast-t9 c = search needs
 
--- src/lib.rt:38:13
 returns-2 : tie.Need-returns-2 Inv-loop μ-loop
 returns-2 c = search (needs, letters-wrong)
 
--- src/lib.rt:27:1
 returns-3 : tie.Need-returns-3 Inv-loop μ-loop
 returns-3 c = search (needs, letters-end)
 

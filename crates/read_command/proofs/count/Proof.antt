@@ -1,3 +1,4 @@
+-- `count` meets its contract: its tests are those of `counted`, and a product within the limit does not wrap.
 use borrow.Author.Needs.{needs}
 use borrow.Author.Tests.{le-leb, lt-leb}
 use native.Mathlib.Omega.{arith}
@@ -5,47 +6,34 @@ use native.Mathlib.Nat.{mul-le-mul}
 use Prim.Native.Nat.{_*_, _≤_}
 use Rattle.read_command.proofs.count.Statement.{statement}
 use Rattle.read_command.proofs.count.Tie as tie
-use Rattle.read_command.proofs.count.Reads as reads
-use Rattle.read_command.proofs.count.Lts as lts
-use Rattle.token_table.proofs.cap.Reads as cap-reads
 
--- src/lib.rt:72:18
 add-places : tie.Need-add-places
 add-places c = search needs
 
--- src/lib.rt:73:27
 cast-cap : tie.Need-cast-cap
 cast-cap c = search needs
 
--- src/lib.rt:73:27
 add-cap : tie.Need-add-cap
 add-cap c = search needs
 
--- src/lib.rt:73:9
 cap-requires : tie.Need-cap-requires
 cap-requires c κs = search needs
 
--- src/lib.rt:75:9
 returns : tie.Need-returns
 returns c = rw (c .before .cap .ensures, c .if1 .taken)
 
--- src/lib.rt:77:19
 cast-product : tie.Need-cast-product
 cast-product c = search needs
 
--- src/lib.rt:77:19
 mul-product : tie.Need-mul-product
 mul-product c = let p = c .before .before .before .before .before .args .t .product in let a = c .before .before .before .before .before .args .args in let h : p ≤ 4294967295 = omega arith in let g : a ≤ 4294967295 = omega arith in let m : p * a ≤ 4294967295 * 4294967295 = mul-le-mul h g in omega arith
 
--- src/lib.rt:79:54
 cast-t12 : tie.Need-cast-t12
 cast-t12 c = search needs
 
--- src/lib.rt:79:9
 returns-2 : tie.Need-returns-2
 returns-2 c = rw (c .before .before .before .cap .ensures, c .before .before .if1 .left, le-leb _ _ (c .if2 .taken))
 
--- src/lib.rt:68:1
 returns-3 : tie.Need-returns-3
 returns-3 c = rw (c .before .before .before .cap .ensures, c .before .before .if1 .left, lt-leb _ _ (c .if2 .left))
 

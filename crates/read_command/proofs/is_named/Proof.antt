@@ -1,3 +1,4 @@
+-- `is_named` meets its contract: a `=` stands in the first place exactly if the rules cut there.
 use borrow.Author.Needs.{needs}
 use Rattle.token_table.proofs.FindLaws.{found-inside}
 use denote.Ref.{now}
@@ -7,23 +8,16 @@ use lib.Seq.{length-take-le}
 use Rattle.read_command.proofs.TurnLaws.{kind-is}
 use Rattle.read_command.proofs.is_named.Statement.{statement}
 use Rattle.read_command.proofs.is_named.Tie as tie
-use Rattle.read_command.proofs.is_named.Reads as reads
-use Rattle.read_command.proofs.is_named.Lts as lts
-use Rattle.token_table.proofs.find.Reads as find-reads
 
--- src/lib.rt:116:9
 find-requires : tie.Need-find-requires
 find-requires c κs = search needs
 
--- src/lib.rt:117:17
 slice-aggregate-find : tie.Need-slice-aggregate-find
 slice-aggregate-find c = sym (length-take-le (c .before .find .result) (now (c .before .before .before .args .toks)) (found-inside (now (c .before .before .before .args .toks)) 0 6 (c .before .find .ensures) (omega arith)))
 
--- src/lib.rt:117:5
 find-requires-2 : tie.Need-find-requires-2
 find-requires-2 c κs = search needs
 
--- src/lib.rt:113:1
 returns : tie.Need-returns
 returns c = kind-is (now (c .before .before .before .before .args .toks)) (c .before .before .find .ensures) (c .find2 .ensures)
 

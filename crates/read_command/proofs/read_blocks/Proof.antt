@@ -1,3 +1,4 @@
+-- `read_blocks` meets its contract: at every turn the tally so far and the blocks from here on give what the rules give for all blocks.
 use borrow.Author.Needs.{needs}
 use Rattle.read_command.proofs.TurnLaws.{blocks-many, blocks-more, blocks-stop, blocks-end}
 use Rattle.read_command.specs.Blocks.{blocksRead}
@@ -13,11 +14,6 @@ use mathlib.Core.Path.{_≡_, refl}
 use Prim.Native.Nat.{_+_, _-_, _≤_}
 use Rattle.read_command.proofs.read_blocks.Statement.{statement}
 use Rattle.read_command.proofs.read_blocks.Tie as tie
-use Rattle.read_command.proofs.read_blocks.Reads as reads
-use Rattle.read_command.proofs.read_blocks.Lts as lts
-use Rattle.read_command.proofs.block.Reads as block-reads
-use Rattle.token_table.proofs.find.Reads as find-reads
-use Rattle.token_table.proofs.place_at.Reads as place-at-reads
 
 abbrev Inv-loop : tie.InvT-loop
 Inv-loop toks contents bases from before end i₀ m₀ at₀ t₀ i m at t = (blocksRead t₀ (readBlocks (basesIn bases) 0 (t₀ .places) before (partsFrom colon end contents toks from)) ≡ blocksRead t (readBlocks (basesIn bases) m (t .places) at (partsFrom colon end contents toks i))) × (m ≤ 8)
@@ -29,71 +25,54 @@ abbrev μ-loop : tie.MeasureT-loop
 inside : (c : tie.After-find Inv-loop μ-loop) → c .find .result ≤ length (now (c .before .before .before .before .before .before .before .args .toks))
 inside c = found-inside (now (c .before .before .before .before .before .before .before .args .toks)) (c .before .before .before .loop .i) 7 (c .find .ensures) (c .before .before .loop-test .taken)
 
--- src/lib.rt:137:5
 loop-holds : tie.Need-loop-holds Inv-loop μ-loop
 loop-holds c = (refl, omega arith)
 
--- src/lib.rt:139:13
 returns : tie.Need-returns Inv-loop μ-loop
 returns c = let a = c .before .before .before .before .before .before .args in let l = c .before .before .loop in blocks-many (basesIn (now (a .bases))) (now (a .toks)) (now (a .contents)) (a .end) (l .i) (l .m) (l .at) (l .t) (l .inv .0) (c .before .loop-test .taken) (c .if1 .taken)
 
--- src/lib.rt:141:13
 find-requires : tie.Need-find-requires Inv-loop μ-loop
 find-requires c κs = search needs
 
--- src/lib.rt:142:9
 place-at-requires : tie.Need-place-at-requires Inv-loop μ-loop
 place-at-requires c κs = search needs
 
--- src/lib.rt:143:21
 mul-block : tie.Need-mul-block Inv-loop μ-loop
 mul-block c = search needs
 
--- src/lib.rt:143:21
 sub-block : tie.Need-sub-block Inv-loop μ-loop
 sub-block c = search needs
 
--- src/lib.rt:143:21
 part-block-start : tie.Need-part-block-start Inv-loop μ-loop
 part-block-start c = search needs
 
--- src/lib.rt:143:21
 part-block-end : tie.Need-part-block-end Inv-loop μ-loop
 part-block-end c = inside (c .before)
 
--- src/lib.rt:143:15
 block-requires : tie.Need-block-requires Inv-loop μ-loop
 block-requires c κs = search needs
 
--- src/lib.rt:144:32
 enum-known-no : tie.Need-enum-known-no Inv-loop μ-loop
 enum-known-no c = search needs
 
--- src/lib.rt:144:47
 returns-2 : tie.Need-returns-2 Inv-loop μ-loop
 returns-2 c = let a = c .before .before .before .before .before .before .before .before .before .before .before .before .before .args in let l = c .before .before .before .before .before .before .before .before .before .loop in let v = c .before .no .given .0 in blocks-stop (basesIn (now (a .bases))) (now (a .toks)) (now (a .contents)) (a .end) (l .i) (l .m) (l .at) (l .t) (v .0) (v .1 .0) (l .inv .0) (c .before .before .before .before .before .before .before .before .loop-test .taken) (c .before .before .before .before .before .before .before .if1 .left) (c .before .before .before .before .before .before .find .ensures) (c .before .before .before .before .before .place-at .ensures) (c .before .before .before .block .ensures) (c .before .no .given .1)
 
--- src/lib.rt:145:27
 enum-known-after : tie.Need-enum-known-after Inv-loop μ-loop
 enum-known-after c = search needs
 
--- src/lib.rt:147:17
 add-m : tie.Need-add-m Inv-loop μ-loop
 add-m c = omega (arith, c .before .before .before .before .before .before .before .if1 .left)
 
--- src/lib.rt:148:21
 add-i : tie.Need-add-i Inv-loop μ-loop
 add-i c = omega (arith, inside (c .before .before .before .before .before .before), c .before .before .before .before .before .before .before .before .before .before .before .before .before .good .0 .1)
 
--- src/lib.rt:137:5
 loop-less : tie.Need-loop-less Inv-loop μ-loop
 loop-less c = omega (arith, inside (c .before .before .before .before .before .before), c .before .before .before .before .before .before .before .before .loop-test .taken, found-past (now (c .before .before .before .before .before .before .before .before .before .before .before .before .before .args .toks)) (c .before .before .before .before .before .before .before .before .before .loop .i) 7 (c .before .before .before .before .before .before .find .ensures))
 
--- src/lib.rt:137:5
 loop-again : tie.Need-loop-again Inv-loop μ-loop
 loop-again c = let a = c .before .before .before .before .before .before .before .before .before .before .before .before .before .args in let l = c .before .before .before .before .before .before .before .before .before .loop in (blocks-more (basesIn (now (a .bases))) (now (a .toks)) (now (a .contents)) (a .end) (l .i) (l .m) (l .at) (l .t) (c .before .after .given .0 .0) (l .inv .0) (c .before .before .before .before .before .before .before .before .loop-test .taken) (c .before .before .before .before .before .before .before .if1 .left) (c .before .before .before .before .before .before .find .ensures) (c .before .before .before .before .before .place-at .ensures) (c .before .before .before .block .ensures) (c .before .after .given .1), omega (arith, c .before .before .before .before .before .before .before .if1 .left))
 
--- src/lib.rt:129:1
 returns-3 : tie.Need-returns-3 Inv-loop μ-loop
 returns-3 c = let a = c .before .before .before .before .before .args in let l = c .before .loop in blocks-end (basesIn (now (a .bases))) (now (a .toks)) (now (a .contents)) (a .end) (l .i) (l .m) (l .at) (l .t) (l .inv .0) (c .loop-test .left)
 

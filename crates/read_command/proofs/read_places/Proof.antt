@@ -17,14 +17,6 @@ use Rattle.read_command.proofs.TurnLaws.{PlacesFrom, places-start, plac
 use borrow.Author.Needs.{needs}
 use Rattle.read_command.proofs.read_places.Statement.{statement}
 use Rattle.read_command.proofs.read_places.Tie as tie
-use Rattle.read_command.proofs.read_places.Reads as reads
-use Rattle.read_command.proofs.read_places.Lts as lts
-use Rattle.read_command.proofs.count.Reads as count-reads
-use Rattle.marks.proofs.add_if.Reads as add-if-reads
-use Rattle.marks.proofs.none.Reads as none-reads
-use Rattle.token_table.proofs.find.Reads as find-reads
-use Rattle.token_table.proofs.place_at.Reads as place-at-reads
-use Rattle.read_place.proofs.place.Reads as place-reads
 
 abbrev Inv-loop : tie.InvT-loop
 Inv-loop toks contents bases named end i₀ t₀ marks₀ i t marks =

@@ -6,10 +6,6 @@ use Rattle.read_names.proofs.NameLaws.{tell-looked, tell-new}
 use borrow.Author.Needs.{needs}
 use Rattle.read_names.proofs.is_twice.Statement.{statement}
 use Rattle.read_names.proofs.is_twice.Tie as tie
-use Rattle.read_names.proofs.is_twice.Reads as reads
-use Rattle.read_names.proofs.is_twice.Lts as lts
-use Rattle.marks.proofs.has.Reads as has-reads
-use Rattle.read_names.proofs.stands.Reads as stands-reads
 
 has-requires : tie.Need-has-requires
 has-requires c κs = search needs

@@ -9,9 +9,6 @@ use Rattle.read_names.specs.Names.{nameKey}
 use Rattle.read_names.proofs.NameLaws.{key-more, key-end}
 use Rattle.read_names.proofs.key.Statement.{statement}
 use Rattle.read_names.proofs.key.Tie as tie
-use Rattle.read_names.proofs.key.Reads as reads
-use Rattle.read_names.proofs.key.Lts as lts
-use Rattle.read_names.proofs.piece_key.Reads as piece-key-reads
 
 abbrev Inv-loop : tie.InvT-loop
 Inv-loop name contents i₀ key₀ i key = nameKey 0 (wordsIn true contents name) ≡ nameKey key (wordsIn true contents (drop i name))
@@ -19,35 +16,27 @@ Inv-loop name contents i₀ key₀ i key = nameKey 0 (wordsIn true contents name
 abbrev μ-loop : tie.MeasureT-loop
 μ-loop name contents i₀ key₀ i key = length name - i
 
--- src/lib.rt:76:5
 loop-holds : tie.Need-loop-holds Inv-loop μ-loop
 loop-holds c = search needs
 
--- src/lib.rt:77:40
 mul-piece-key : tie.Need-mul-piece-key Inv-loop μ-loop
 mul-piece-key c = search needs
 
--- src/lib.rt:77:40
 shared-slice-read-piece-key : tie.Need-shared-slice-read-piece-key Inv-loop μ-loop
 shared-slice-read-piece-key c = search needs
 
--- src/lib.rt:77:9
 piece-key-requires : tie.Need-piece-key-requires Inv-loop μ-loop
 piece-key-requires c κs = search needs
 
--- src/lib.rt:78:9
 add-i : tie.Need-add-i Inv-loop μ-loop
 add-i c = search needs
 
--- src/lib.rt:76:5
 loop-less : tie.Need-loop-less Inv-loop μ-loop
 loop-less c = search needs
 
--- src/lib.rt:76:5
 loop-again : tie.Need-loop-again Inv-loop μ-loop
 loop-again c = search (needs, key-more)
 
--- src/lib.rt:71:1
 returns : tie.Need-returns Inv-loop μ-loop
 returns c = search (needs, key-end)
 

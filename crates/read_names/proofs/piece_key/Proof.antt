@@ -7,11 +7,6 @@ use Rattle.marks.specs.Marks.{keyOf}
 use Rattle.token_table.proofs.ContentLaws.{Cuts, cuts}
 use Rattle.read_names.proofs.piece_key.Statement.{statement}
 use Rattle.read_names.proofs.piece_key.Tie as tie
-use Rattle.read_names.proofs.piece_key.Reads as reads
-use Rattle.read_names.proofs.piece_key.Lts as lts
-use Rattle.marks.proofs.key.Reads as key-reads
-use Rattle.token_table.proofs.end.Reads as end-reads
-use Rattle.token_table.proofs.start.Reads as start-reads
 
 -- what is cut out is the token's content
 cut : (c : tie.After-end) → let a = c .before .before .before .args in Cuts (now (a .contents)) (a .t) (c .before .start .result) (c .end .result)

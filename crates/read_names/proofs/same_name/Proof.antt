@@ -5,9 +5,6 @@ use borrow.Author.Needs.{needs}
 use Rattle.read_names.proofs.NameLaws.{Alike, alike-more, alike-stop, alike-end, alike-longer}
 use Rattle.read_names.proofs.same_name.Statement.{statement}
 use Rattle.read_names.proofs.same_name.Tie as tie
-use Rattle.read_names.proofs.same_name.Reads as reads
-use Rattle.read_names.proofs.same_name.Lts as lts
-use Rattle.read_names.proofs.same_piece.Reads as same-piece-reads
 
 abbrev Inv-loop : tie.InvT-loop
 Inv-loop a b contents i₀ i = Alike contents a b i

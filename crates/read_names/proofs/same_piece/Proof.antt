@@ -7,11 +7,6 @@ use Rattle.laws.specs.Lists.{eqL}
 use Rattle.token_table.proofs.ContentLaws.{Cuts, cuts}
 use Rattle.read_names.proofs.same_piece.Statement.{statement}
 use Rattle.read_names.proofs.same_piece.Tie as tie
-use Rattle.read_names.proofs.same_piece.Reads as reads
-use Rattle.read_names.proofs.same_piece.Lts as lts
-use Rattle.marks.proofs.same.Reads as same-reads
-use Rattle.token_table.proofs.end.Reads as end-reads
-use Rattle.token_table.proofs.start.Reads as start-reads
 
 -- what is cut out is the one token's content and the other's
 cut : (c : tie.After-end) → let a = c .before .before .before .args in Cuts (now (a .contents)) (a .t) (c .before .start .result) (c .end .result)

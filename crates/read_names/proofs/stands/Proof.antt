@@ -13,10 +13,6 @@ use Rattle.read_names.specs.Names.{NamesOf}
 use Rattle.read_names.proofs.NameLaws.{Walked, walk-start, walk-found, walk-more, walk-end}
 use Rattle.read_names.proofs.stands.Statement.{statement}
 use Rattle.read_names.proofs.stands.Tie as tie
-use Rattle.read_names.proofs.stands.Reads as reads
-use Rattle.read_names.proofs.stands.Lts as lts
-use Rattle.read_names.proofs.same_name.Reads as same-name-reads
-use Rattle.token_table.proofs.find.Reads as find-reads
 
 abbrev Inv-loop : tie.InvT-loop
 Inv-loop before name contents i₀ i = (ns : List Name) → NamesOf contents before ns → Walked contents before (wordsIn true contents name) ns i

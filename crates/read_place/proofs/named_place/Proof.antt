@@ -9,16 +9,6 @@ use Rattle.read_place.proofs.PlaceLaws.{part-from, named-wrong, named-t
 use borrow.Author.Needs.{needs}
 use Rattle.read_place.proofs.named_place.Statement.{statement}
 use Rattle.read_place.proofs.named_place.Tie as tie
-use Rattle.read_place.proofs.named_place.Reads as reads
-use Rattle.read_place.proofs.named_place.Lts as lts
-use Rattle.read_names.proofs.is_twice.Reads as is-twice-reads
-use Rattle.read_names.proofs.key.Reads as key-reads
-use Rattle.token_table.proofs.cap.Reads as cap-reads
-use Rattle.token_table.proofs.pieces_len.Reads as pieces-len-reads
-use Rattle.read_pieces.proofs.pieces.Reads as pieces-reads
-use Rattle.read_place.proofs.refused.Reads as refused-reads
-use Rattle.read_place.proofs.value.Reads as value-reads
-use Rattle.token_table.proofs.place.Reads as place-reads
 
 slice-aggregate-name : tie.Need-slice-aggregate-name
 slice-aggregate-name c = sym (length-take-le (c .before .before .before .before .before .args .equals) (now (c .before .before .before .before .before .args .toks)) (omega arith))

@@ -3,12 +3,6 @@ use Rattle.read_place.proofs.PlaceLaws.{place-many, place-cut, place-un
 use borrow.Author.Needs.{needs}
 use Rattle.read_place.proofs.place.Statement.{statement}
 use Rattle.read_place.proofs.place.Tie as tie
-use Rattle.read_place.proofs.place.Reads as reads
-use Rattle.read_place.proofs.place.Lts as lts
-use Rattle.token_table.proofs.find.Reads as find-reads
-use Rattle.read_place.proofs.named_place.Reads as named-place-reads
-use Rattle.read_place.proofs.position.Reads as position-reads
-use Rattle.read_place.proofs.refused.Reads as refused-reads
 
 refused-requires : tie.Need-refused-requires
 refused-requires c κs = search needs

@@ -1,3 +1,4 @@
+-- `value` meets its contract: what the value's reader answers is the rule's result, and a value that is read is without fault and can be measured.
 use borrow.Author.Needs.{needs}
 use Rattle.read_place.proofs.PlaceLaws.{faultless}
 use Rattle.read_bases.specs.Bases.{baseIn}
@@ -6,26 +7,16 @@ use denote.Ref.{now}
 use Rattle.read_place.proofs.PlaceLaws.{HasRead, has-read, value-wrong, value-fine}
 use Rattle.read_place.proofs.value.Statement.{statement}
 use Rattle.read_place.proofs.value.Tie as tie
-use Rattle.read_place.proofs.value.Reads as reads
-use Rattle.read_place.proofs.value.Lts as lts
-use Rattle.read_bases.proofs.base.Reads as base-reads
-use Rattle.read_place.proofs.with_value.Reads as with-value-reads
-use Rattle.token_table.proofs.place.Reads as place-reads
-use Rattle.read_value.proofs.read_value.Reads as read-value-reads
 
--- src/lib.rt:58:9
 base-requires : tie.Need-base-requires
 base-requires c κs = search needs
 
--- src/lib.rt:59:11
 read-value-requires : tie.Need-read-value-requires
 read-value-requires c κs = search needs
 
--- src/lib.rt:60:24
 enum-known-no : tie.Need-enum-known-no
 enum-known-no c = search needs
 
--- src/lib.rt:61:27
 enum-known-count : tie.Need-enum-known-count
 enum-known-count c = search needs
 
@@ -36,27 +27,21 @@ got c =
     has-read (now (a .toks)) (now (a .contents)) (baseIn (now (a .bases)) (a .n)) (a .end) (c .count .given .0 .0) (c .count .given .0 .1 .0)
     (c .before .before .read-value .ensures (baseIn (now (a .bases)) (a .n)) (c .before .before .before .base .ensures)) (c .count .given .1)
 
--- src/lib.rt:62:19
 cast-t15 : tie.Need-cast-t15
 cast-t15 c = omega (arith, got (c .before))
 
--- src/lib.rt:63:30
 shared-slice-read-place : tie.Need-shared-slice-read-place
 shared-slice-read-place c = omega (arith, got (c .before .before))
 
--- src/lib.rt:63:17
 place-requires : tie.Need-place-requires
 place-requires c κs = search needs
 
--- src/lib.rt:64:20
 with-value-requires : tie.Need-with-value-requires
 with-value-requires c κs = let a = c .before .before .before .before .before .before .before .before .before .before .args in faultless (now (a .toks)) (now (a .contents)) (baseIn (now (a .bases)) (a .n)) (a .end) (c .before .before .before .count .given .0 .1 .0) (c .before .before .before .before .before .before .base .result) (got (c .before .before .before)) (c .before .before .before .before .before .before .base .ensures)
 
--- src/lib.rt:54:1
 returns : tie.Need-returns
 returns c = let a = c .before .before .before .before .before .before .before .before .args in let v = c .before .no .given .0 in value-wrong (now (a .toks)) (now (a .contents)) (baseIn (now (a .bases)) (a .n)) (a .head) (a .key) (a .end) (v .0) (v .1 .0) (c .before .before .before .read-value .ensures (baseIn (now (a .bases)) (a .n)) (c .before .before .before .before .base .ensures)) (c .before .no .given .1)
 
--- src/lib.rt:54:1
 returns-2 : tie.Need-returns-2
 returns-2 c = let a = c .before .before .before .before .before .before .before .before .before .before .before .args in value-fine (now (a .toks)) (now (a .contents)) (c .before .before .before .before .before .before .before .base .result) (baseIn (now (a .bases)) (a .n)) (a .head) (a .key) (a .end) (c .before .before .before .before .count .given .0 .1 .0) (got (c .before .before .before .before)) (c .before .before .before .before .before .before .before .base .ensures) (c .before .place .ensures) (c .with-value .ensures)
 

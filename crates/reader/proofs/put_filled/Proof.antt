@@ -5,23 +5,16 @@ use lib.Seq.{length-take-le}
 use mathlib.Core.Path.{sym}
 use Rattle.reader.proofs.put_filled.Statement.{statement}
 use Rattle.reader.proofs.put_filled.Tie as tie
-use Rattle.reader.proofs.put_filled.Reads as reads
-use Rattle.reader.proofs.put_filled.Lts as lts
-use Rattle.reader.proofs.put_record.Reads as put-record-reads
 
--- src/lib.rt:58:16
 slice-aggregate-put-record : tie.Need-slice-aggregate-put-record
 slice-aggregate-put-record c = sym (length-take-le (c .before .before .before .before .before .args .n) (now (c .before .before .before .before .before .args .toks)) (c .before .before .before .before .before .pre .0))
 
--- src/lib.rt:58:5
 put-record-requires : tie.Need-put-record-requires
 put-record-requires c κs = search needs
 
--- src/lib.rt:47:1
 same-length : tie.Need-same-length
 same-length c = search needs
 
--- src/lib.rt:47:1
 returns : tie.Need-returns
 returns c = search needs
 

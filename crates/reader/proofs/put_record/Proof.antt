@@ -5,51 +5,37 @@ use Rattle.reader.proofs.ReadLaws.{tokens-right, tokens-short, tokens-f
 use native.Mathlib.Omega.{arith}
 use Rattle.reader.proofs.put_record.Statement.{statement}
 use Rattle.reader.proofs.put_record.Tie as tie
-use Rattle.reader.proofs.put_record.Reads as reads
-use Rattle.reader.proofs.put_record.Lts as lts
-use Rattle.read_command.proofs.command.Reads as command-reads
-use Rattle.command_fields.proofs.put_command.Reads as put-command-reads
 
--- src/lib.rt:35:11
 command-requires : tie.Need-command-requires
 command-requires c κs = search needs
 
--- src/lib.rt:36:28
 enum-known-no : tie.Need-enum-known-no
 enum-known-no c = search needs
 
--- src/lib.rt:37:25
 enum-known-bytes : tie.Need-enum-known-bytes
 enum-known-bytes c = search needs
 
--- src/lib.rt:38:28
 cast-if1 : tie.Need-cast-if1
 cast-if1 c = search needs
 
--- src/lib.rt:39:17
 returns : tie.Need-returns
 returns c = tokens-short (now (c .before .before .before .before .before .before .before .before .before .args .toks)) (now (c .before .before .before .before .before .before .before .before .before .args .contents)) (now (c .before .before .before .before .before .before .before .before .before .args .bases)) (c .before .before .before .before .before .before .before .before .before .args .len) (now (c .before .before .before .before .before .before .before .before .before .args .out)) _ (tokens-right (now (c .before .before .before .before .before .before .before .before .before .args .toks)) (now (c .before .before .before .before .before .before .before .before .before .args .contents)) (now (c .before .before .before .before .before .before .before .before .before .args .bases)) (c .before .before .before .before .before .before .before .before .before .args .len) (now (c .before .before .before .before .before .before .before .before .before .args .out)) _ (c .before .before .before .before .before .before .before .before .before .pre) (c .before .before .before .before .command .ensures) (c .before .before .bytes .given .1)) (c .if1 .taken)
 
--- src/lib.rt:41:26
 put-command-requires : tie.Need-put-command-requires
 put-command-requires c κs = tokens-fit (now (c .before .before .before .before .before .before .before .before .before .before .args .toks)) (now (c .before .before .before .before .before .before .before .before .before .before .args .contents)) (now (c .before .before .before .before .before .before .before .before .before .before .args .bases)) (c .before .before .before .before .before .before .before .before .before .before .args .len) (now (c .before .before .before .before .before .before .before .before .before .before .args .out)) _ (tokens-right (now (c .before .before .before .before .before .before .before .before .before .before .args .toks)) (now (c .before .before .before .before .before .before .before .before .before .before .args .contents)) (now (c .before .before .before .before .before .before .before .before .before .before .args .bases)) (c .before .before .before .before .before .before .before .before .before .before .args .len) (now (c .before .before .before .before .before .before .before .before .before .before .args .out)) _ (c .before .before .before .before .before .before .before .before .before .before .pre) (c .before .before .before .before .before .command .ensures) (c .before .before .before .bytes .given .1)) (c .before .if1 .left)
 
--- src/lib.rt:41:26
 cast-t16 : tie.Need-cast-t16
 cast-t16 c =
     let w = (tokens-right (now (c .before .before .before .before .before .before .before .before .before .before .before .before .before .args .toks)) (now (c .before .before .before .before .before .before .before .before .before .before .before .before .before .args .contents)) (now (c .before .before .before .before .before .before .before .before .before .before .before .before .before .args .bases)) (c .before .before .before .before .before .before .before .before .before .before .before .before .before .args .len) (now (c .before .before .before .before .before .before .before .before .before .before .before .before .before .args .out)) _ (c .before .before .before .before .before .before .before .before .before .before .before .before .before .pre) (c .before .before .before .before .before .before .before .before .command .ensures) (c .before .before .before .before .before .before .bytes .given .1)) in
     let v = c .before .before .put-command .ensures _ (w .c) (w .is) in
     omega (arith, v .0, w .size, c .before .before .before .before .before .known-told2 .given)
 
--- src/lib.rt:31:1
 returns-2 : tie.Need-returns-2
 returns-2 c = tokens-refused (now (c .before .before .before .before .before .before .before .before .args .toks)) (now (c .before .before .before .before .before .before .before .before .args .contents)) (now (c .before .before .before .before .before .before .before .before .args .bases)) (c .before .before .before .before .before .before .before .before .args .len) (now (c .before .before .before .before .before .before .before .before .args .out)) _ _ (c .before .before .before .command .ensures) (c .before .no .given .1)
 
--- src/lib.rt:31:1
 same-length : tie.Need-same-length
 same-length c = search needs
 
--- src/lib.rt:31:1
 returns-3 : tie.Need-returns-3
 returns-3 c = tokens-done (now (c .before .before .before .before .before .before .before .before .before .before .before .before .before .args .toks)) (now (c .before .before .before .before .before .before .before .before .before .before .before .before .before .args .contents)) (now (c .before .before .before .before .before .before .before .before .before .before .before .before .before .args .bases)) (c .before .before .before .before .before .before .before .before .before .before .before .before .before .args .len) (now (c .before .before .before .before .before .before .before .before .before .before .before .before .before .args .out)) _ (tokens-right (now (c .before .before .before .before .before .before .before .before .before .before .before .before .before .args .toks)) (now (c .before .before .before .before .before .before .before .before .before .before .before .before .before .args .contents)) (now (c .before .before .before .before .before .before .before .before .before .before .before .before .before .args .bases)) (c .before .before .before .before .before .before .before .before .before .before .before .before .before .args .len) (now (c .before .before .before .before .before .before .before .before .before .before .before .before .before .args .out)) _ (c .before .before .before .before .before .before .before .before .before .before .before .before .before .pre) (c .before .before .before .before .before .before .before .before .command .ensures) (c .before .before .before .before .before .before .bytes .given .1)) (c .before .before .before .before .if1 .left) (c .before .before .put-command .ensures)
 

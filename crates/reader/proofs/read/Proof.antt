@@ -3,36 +3,25 @@ use borrow.Author.Needs.{needs}
 use Rattle.reader.proofs.ReadLaws.{read-refused, read-text}
 use Rattle.reader.proofs.read.Statement.{statement}
 use Rattle.reader.proofs.read.Tie as tie
-use Rattle.reader.proofs.read.Reads as reads
-use Rattle.reader.proofs.read.Lts as lts
-use Rattle.read_bases.proofs.letters.Reads as letters-reads
-use Rattle.reader.proofs.read_text.Reads as read-text-reads
 
--- src/lib.rt:95:11
 letters-requires : tie.Need-letters-requires
 letters-requires c κs = search needs
 
--- src/lib.rt:96:28
 enum-known-no : tie.Need-enum-known-no
 enum-known-no c = search needs
 
--- src/lib.rt:97:49
 enum-told : tie.Need-enum-told
 enum-told c = search needs
 
--- src/lib.rt:97:26
 read-text-requires : tie.Need-read-text-requires
 read-text-requires c κs = search needs
 
--- src/lib.rt:92:1
 returns : tie.Need-returns
 returns c = read-refused _ _ _ _ _ (c .before .before .before .letters .ensures) (c .before .no .given .1)
 
--- src/lib.rt:92:1
 same-length : tie.Need-same-length
 same-length c = search needs
 
--- src/lib.rt:92:1
 returns-2 : tie.Need-returns-2
 returns-2 c = read-text _ _ _ (c .before .before .before .before .before .before .letters .ensures) (c .before .before .before .before .enum-told .given .1) (c .before .before .read-text .ensures)
 

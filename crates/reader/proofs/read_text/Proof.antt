@@ -7,11 +7,6 @@ use Rattle.reader.proofs.ReadLaws.{text-long}
 use native.Mathlib.Omega.{arith}
 use Rattle.reader.proofs.read_text.Statement.{statement}
 use Rattle.reader.proofs.read_text.Tie as tie
-use Rattle.reader.proofs.read_text.Reads as reads
-use Rattle.reader.proofs.read_text.Lts as lts
-use Rattle.reader.proofs.read_long.Reads as read-long-reads
-use Rattle.reader.proofs.read_middle.Reads as read-middle-reads
-use Rattle.reader.proofs.read_short.Reads as read-short-reads
 
 cast-t7 : tie.Need-cast-t7
 cast-t7 c = omega arith

@@ -6,62 +6,45 @@ use Rattle.reader.proofs.ReadLaws.{filled-bad, filled-done, text-refuse
 use native.Mathlib.Omega.{arith}
 use Rattle.reader.proofs.with_tables.Statement.{statement}
 use Rattle.reader.proofs.with_tables.Tie as tie
-use Rattle.reader.proofs.with_tables.Reads as reads
-use Rattle.reader.proofs.with_tables.Lts as lts
-use Rattle.reader.proofs.put_filled.Reads as put-filled-reads
-use Rattle.scan.proofs.tokens.Reads as tokens-reads
 
--- src/lib.rt:73:11
 tokens-requires : tie.Need-tokens-requires
 tokens-requires c κs = search needs
 
--- src/lib.rt:74:27
 enum-known-no : tie.Need-enum-known-no
 enum-known-no c = search needs
 
--- src/lib.rt:74:70
 cast-t17 : tie.Need-cast-t17
 cast-t17 c = omega (arith, scan-at (now (c .before .before .before .before .before .before .before .before .before .before .before .before .before .before .before .args .text)) _ _ (c .before .before .before .before .before .before .before .before .before .before .before .before .before .before .before .pre .1) (filled-bad _ _ _ (c .before .before .before .before .before .before .before .tokens .ensures) (c .before .no .given .1)))
 
--- src/lib.rt:75:24
 enum-known-tokens : tie.Need-enum-known-tokens
 enum-known-tokens c = search needs
 
--- src/lib.rt:80:13
 cast-put-filled : tie.Need-cast-put-filled
 cast-put-filled c = search needs
 
--- src/lib.rt:75:43
 put-filled-requires : tie.Need-put-filled-requires
 put-filled-requires c κs =
     let w = (filled-done _ _ _ (c .before .before .before .before .before .before .before .before .before .before .tokens .ensures) (c .before .before .before .before .tokens2 .given .1)) in
     (w .table, record { text = (now (c .before .before .before .before .before .before .before .before .before .before .before .before .before .before .before .before .before .before .args .text)); is = w .is })
 
--- src/lib.rt:62:1
 same-length : tie.Need-same-length
 same-length c = search needs
 
--- src/lib.rt:62:1
 same-length-2 : tie.Need-same-length-2
 same-length-2 c = search needs
 
--- src/lib.rt:62:1
 returns : tie.Need-returns
 returns c = text-refused (now (c .before .before .before .before .before .before .before .before .before .before .before .before .before .before .before .args .text)) (now (c .before .before .before .before .before .before .before .before .before .before .before .before .before .before .before .args .bases)) (now (c .before .before .before .before .before .before .before .before .before .before .before .before .before .before .before .args .out)) _ _ (filled-bad _ _ _ (c .before .before .before .before .before .before .before .tokens .ensures) (c .before .no .given .1))
 
--- src/lib.rt:62:1
 same-length-3 : tie.Need-same-length-3
 same-length-3 c = search needs
 
--- src/lib.rt:62:1
 same-length-4 : tie.Need-same-length-4
 same-length-4 c = search needs
 
--- src/lib.rt:62:1
 same-length-5 : tie.Need-same-length-5
 same-length-5 c = search needs
 
--- src/lib.rt:62:1
 returns-2 : tie.Need-returns-2
 returns-2 c = text-filled (now (c .before .before .before .before .before .before .before .before .before .before .before .before .before .before .before .before .before .before .before .before .before .args .text)) (now (c .before .before .before .before .before .before .before .before .before .before .before .before .before .before .before .before .before .before .before .before .before .args .bases)) (now (c .before .before .before .before .before .before .before .before .before .before .before .before .before .before .before .before .before .before .before .before .before .args .out)) (filled-done _ _ _ (c .before .before .before .before .before .before .before .before .before .before .before .before .before .tokens .ensures) (c .before .before .before .before .before .before .before .tokens2 .given .1)) (c .before .before .put-filled .ensures)
 

@@ -1,25 +1,20 @@
+-- `cap` meets its contract: its test is the one in `capped`.
 use borrow.Author.Needs.{needs}
 use borrow.Author.Tests.{le-leb, lt-leb}
 use Rattle.token_table.specs.Parts.{capped}
 use Rattle.token_table.proofs.cap.Statement.{statement}
 use Rattle.token_table.proofs.cap.Tie as tie
-use Rattle.token_table.proofs.cap.Reads as reads
-use Rattle.token_table.proofs.cap.Lts as lts
 
--- src/lib.rt:41:16
 cast-result : tie.Need-cast-result
 cast-result c = search needs
 
--- src/lib.rt:41:9
 returns : tie.Need-returns
 unfolding capped
 returns c = rw (le-leb _ _ (c .if1 .taken))
 
--- src/lib.rt:43:5
 cast-result-2 : tie.Need-cast-result-2
 cast-result-2 c = search needs
 
--- src/lib.rt:37:1
 returns-2 : tie.Need-returns-2
 unfolding capped
 returns-2 c = rw (lt-leb _ _ (c .if1 .left))

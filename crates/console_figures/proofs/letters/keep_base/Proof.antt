@@ -4,7 +4,6 @@ use borrow.Author.Needs.{needs}
 use Rattle.console_figures.proofs.LettersLaws.{keeps-other, keeps-full, keeps-one}
 use Rattle.console_figures.proofs.letters.keep_base.Statement.{statement}
 use Rattle.console_figures.proofs.letters.keep_base.Tie as tie
-use Rattle.console_figures.proofs.letters.byte.Reads as byte-reads
 
 shared-slice-read-if1 : tie.Need-shared-slice-read-if1
 shared-slice-read-if1 c = search needs

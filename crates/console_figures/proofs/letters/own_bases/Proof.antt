@@ -6,8 +6,6 @@ use lib.ListN.{length}
 use Rattle.console_figures.proofs.LettersLaws.{Found, found-none, found-end, found-more}
 use Rattle.console_figures.proofs.letters.own_bases.Statement.{statement}
 use Rattle.console_figures.proofs.letters.own_bases.Tie as tie
-use Rattle.console_figures.proofs.letters.content_length.Reads as content-length-reads
-use Rattle.console_figures.proofs.letters.keep_base.Reads as keep-base-reads
 
 abbrev Inv-loop : tie.InvT-loop
 Inv-loop rec bases₀ at₀ n₀ bases at n = Found bases₀ rec bases at n

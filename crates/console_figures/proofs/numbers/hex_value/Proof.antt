@@ -6,8 +6,6 @@ use native.Mathlib.Omega.{arith}
 use Rattle.console_figures.specs.Numbers.{hexValue}
 use Rattle.console_figures.proofs.numbers.hex_value.Statement.{statement}
 use Rattle.console_figures.proofs.numbers.hex_value.Tie as tie
-use Rattle.console_figures.proofs.numbers.hex_value.Reads as reads
-use Rattle.console_figures.proofs.numbers.hex_value.Lts as lts
 
 add-result : tie.Need-add-result
 add-result c = search needs

@@ -8,8 +8,6 @@ use Rattle.console_figures.specs.Numbers.{isBlank}
 use Rattle.console_figures.proofs.NumbersLaws.{blank-below, blank-above}
 use Rattle.console_figures.proofs.numbers.is_blank.Statement.{statement}
 use Rattle.console_figures.proofs.numbers.is_blank.Tie as tie
-use Rattle.console_figures.proofs.numbers.is_blank.Reads as reads
-use Rattle.console_figures.proofs.numbers.is_blank.Lts as lts
 
 returns : tie.Need-returns
 unfolding isBlank

@@ -7,9 +7,6 @@ use Prim.Native.Nat.{_+_}
 use Rattle.console_figures.proofs.NumbersLaws.{hex-most, pair-first, pair-end, pair-second, pair-both}
 use Rattle.console_figures.proofs.numbers.pair_at.Statement.{statement}
 use Rattle.console_figures.proofs.numbers.pair_at.Tie as tie
-use Rattle.console_figures.proofs.numbers.pair_at.Reads as reads
-use Rattle.console_figures.proofs.numbers.pair_at.Lts as lts
-use Rattle.console_figures.proofs.numbers.hex_value.Reads as hex-value-reads
 
 shared-slice-read-hex-value : tie.Need-shared-slice-read-hex-value
 shared-slice-read-hex-value c = search needs

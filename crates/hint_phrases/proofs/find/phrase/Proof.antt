@@ -5,9 +5,6 @@ use Prim.Native.Nat.{_-_}
 use lib.ListN.{length}
 use Rattle.hint_phrases.proofs.find.phrase.Statement.{statement}
 use Rattle.hint_phrases.proofs.find.phrase.Tie as tie
-use Rattle.hint_phrases.proofs.find.begins.Reads as begins-reads
-use Rattle.hint_phrases.proofs.find.next.Reads as next-reads
-use Rattle.hint_phrases.proofs.find.words.Reads as words-reads
 
 abbrev Inv-loop : tie.InvT-loop
 Inv-loop all number key from₀ to₀ at₀ from to at = Unit {0}

@@ -5,9 +5,6 @@ use Prim.Native.Nat.{_-_}
 use lib.ListN.{length}
 use Rattle.hint_phrases.proofs.inserts.write_filled.Statement.{statement}
 use Rattle.hint_phrases.proofs.inserts.write_filled.Tie as tie
-use Rattle.io.proofs.write_all.Reads as write-all-reads
-use Rattle.hint_phrases.proofs.find.next.Reads as next-reads
-use Rattle.hint_phrases.proofs.inserts.write_insert.Reads as write-insert-reads
 
 abbrev Inv-loop : tie.InvT-loop
 Inv-loop fd phrase line contents hint at₀ at = Unit {0}
