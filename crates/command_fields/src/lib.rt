@@ -17,15 +17,6 @@ ghost use Rattle.token_table.specs.Table.{contentIn};
 ghost use Rattle.token_table.specs.Parts.{wordsIn, wordsSize};
 ghost use Rattle.command_fields.specs.Recorder.{wordBytes, NameFits, PutName, PlaceFits, PutPlace, PlacesFit, PutPlaces, BlockFits, PutBlock, BlocksFit, PutBlocks, SegmentsFit, PutSegments, CommandFits, PutCommand};
 
-// The tags of the fields.
-const CODE: u8 = 1;
-
-const BLOCK: u8 = 2;
-
-const PLACE: u8 = 3;
-
-const NAME: u8 = 4;
-
 // What was written: the number of bytes, and the number of places so far.
 pub struct Put {
     pub bytes: usize,
@@ -73,7 +64,7 @@ fn put_name(out: &mut [u8], toks: &[u64], contents: &[u8], base: u8) -> usize
     ensures { λ r. ⌜ PutName (now (toks .entry)) (now (contents .entry)) base r (now (out .entry)) (now (out .exit)) ⌝ }
 {
     let k = token_table::find(toks, 0, token_table::EQUALS);
-    let p = put_pieces(out, NAME, &toks[..k], contents);
+    let p = put_pieces(out, record_walk::NAME, &toks[..k], contents);
     p + value_fields::put_value(&mut out[p..], &toks[k + 1..], contents, base)
 }
 
@@ -90,7 +81,7 @@ fn put_place(
     ensures { λ r. ⌜ PutPlace (now (toks .entry)) (now (contents .entry)) (now (bases .entry)) named n r (now (out .entry)) (now (out .exit)) ⌝ }
 {
     let base = read_bases::base(bases, n);
-    let p = put_byte(out, PLACE, base);
+    let p = put_byte(out, record_walk::PLACE, base);
     if named {
         return p + put_name(&mut out[p..], toks, contents, base);
     }
@@ -143,7 +134,7 @@ fn put_block(out: &mut [u8], toks: &[u64], contents: &[u8], bases: &[u8], first:
     ensures { λ r. ⌜ PutBlock (now (toks .entry)) (now (contents .entry)) (now (bases .entry)) first (r .bytes) (r .places) (now (out .entry)) (now (out .exit)) ⌝ }
 {
     let named = read_command::is_named(toks);
-    let p = put_byte(out, BLOCK, kind_letter(named));
+    let p = put_byte(out, record_walk::BLOCK, kind_letter(named));
     let r = put_places(&mut out[p..], toks, contents, bases, named, first);
     Put {
         bytes: p + r.bytes,
@@ -175,7 +166,7 @@ fn put_segments(out: &mut [u8], toks: &[u64], contents: &[u8], bases: &[u8]) -> 
     ensures { λ r. ⌜ PutSegments (now (toks .entry)) (now (contents .entry)) (now (bases .entry)) r (now (out .entry)) (now (out .exit)) ⌝ }
 {
     let k = token_table::find(toks, 0, token_table::COLON);
-    let p = put_pieces(out, CODE, &toks[..k], contents);
+    let p = put_pieces(out, record_walk::CODE, &toks[..k], contents);
     p + put_blocks(&mut out[p..], toks, contents, bases, k + 1)
 }
 

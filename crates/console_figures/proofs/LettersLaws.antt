@@ -10,7 +10,8 @@ use lib.ListN.{length, getD, take, drop, set, length-append, length-take, take-a
 use lib.Seq.{take-append-le, take-all, take-nil, set-split, drop-drop}
 use Rattle.laws.specs.Cases.{cond-by}
 use Rattle.laws.specs.Over.{over, over-part, length-over}
-use Rattle.console_figures.specs.Letters.{placeTag, fieldSize, letterAt, keptAt, lettersFrom, lettersFor}
+use Rattle.rules.specs.Records.{placeTag}
+use Rattle.console_figures.specs.Letters.{fieldSize, letterAt, keptAt, lettersFrom, lettersFor}
 
 -- one field
 pub from-field : (k : ℕ) (s : List ℕ) (i : ℕ) → i < length s → lettersFrom (suc k) s i ≡ letterAt s i ++ lettersFrom k s (i + fieldSize s i)

@@ -11,11 +11,11 @@ use lib.Seq.{getD-append-add}
 use Rattle.laws.specs.Cases.{byBool}
 use Rattle.rules.specs.Units.{letter, Unit, num, keyed, identifier, symbolic, text}
 use Rattle.rules.specs.Commands.{Element, single, range, Place, place, Block, block, Command, command, placeBase}
-use Rattle.rules.specs.Records.{Field, field, unitField, elementFields, many, placeFields, blockFields, fieldsOf, fieldBytes, bytesOf, encode, basesOf, bases}
+use Rattle.rules.specs.Records.{placeTag, Field, field, unitField, elementFields, many, placeFields, blockFields, fieldsOf, fieldBytes, bytesOf, encode, basesOf, bases}
 use Rattle.rules.specs.Refusals.{ok}
 use Rattle.rules.specs.WellFormed.{recordOf}
 use Rattle.rules.proofs.EncodeDecode.{record-is}
-use Rattle.console_figures.specs.Letters.{placeTag, fieldSize, letterAt, lettersFrom, lettersOf}
+use Rattle.console_figures.specs.Letters.{fieldSize, letterAt, lettersFrom, lettersOf}
 use Rattle.console_figures.proofs.LettersLaws.{from-field, from-end}
 
 -- ---- bytes that stand before

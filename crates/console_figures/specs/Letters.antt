@@ -4,10 +4,7 @@ use mathlib.Core.Bool.{cond}
 use mathlib.Core.List.{List, [], _∷_, _++_}
 use lib.Dec.{eqb, ltb}
 use lib.ListN.{length, getD, take}
-
--- the tag of a place's field, whose content is the place's base letter
-abbrev pub placeTag : ℕ
-placeTag = 3
+use Rattle.rules.specs.Records.{placeTag}
 
 -- how many bytes the field at i takes: one of the tag, two of the length, the content; past the end `getD` gives 0
 abbrev pub fieldSize : List ℕ → ℕ → ℕ

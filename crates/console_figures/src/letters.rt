@@ -6,11 +6,6 @@ ghost use lib.ListN.{length, getD, take, drop};
 ghost use Rattle.laws.specs.Over.{over};
 ghost use Rattle.console_figures.specs.Letters.{lettersFor, keptAt};
 
-// The tag of a place's field; its content is the place's base letter.
-const PLACE: u8 = 3;
-// The bytes before a field's content: one of the tag, two of the length.
-const HEADER: usize = 3;
-
 // Puts the base letters of a record's places to the start of `bases`, as many as fit, and answers
 // how many.
 pub fn own_bases(rec: &[u8], bases: &mut [u8]) -> usize
@@ -20,7 +15,7 @@ pub fn own_bases(rec: &[u8], bases: &mut [u8]) -> usize
     let mut n = 0;
     while at < rec.len() {
         n = keep_base(rec, at, bases, n);
-        at += HEADER + content_length(rec, at);
+        at += record_walk::HEADER + content_length(rec, at);
     }
     n
 }
@@ -31,13 +26,13 @@ fn keep_base(rec: &[u8], at: usize, bases: &mut [u8], n: usize) -> usize
     requires { do ⌜ at < (← ⟦rec.len()⟧) ⌝ }
     ensures { λ r. ⌜ (r ≡ n + length (keptAt (length (now (bases .entry))) n (now (rec .entry)) at)) × (now (bases .exit) ≡ take n (now (bases .entry)) ++ over (keptAt (length (now (bases .entry))) n (now (rec .entry)) at) (drop n (now (bases .entry)))) ⌝ }
 {
-    if rec[at] != PLACE {
+    if rec[at] != record_walk::PLACE {
         return n;
     }
     if bases.len() <= n {
         return n;
     }
-    bases[n] = byte(rec, at + HEADER);
+    bases[n] = byte(rec, at + record_walk::HEADER);
     n + 1
 }
 

@@ -8,12 +8,6 @@ ghost use Rattle.rules.specs.Units.{digitValue, isKey, isHeldKey};
 ghost use Rattle.rules.specs.Printing.{digitChar};
 ghost use Rattle.digits.specs.Digits.{plainLetter, sizeAt, grown, digitsAt, whole, fixed};
 
-// The largest value of a numeral.
-pub const MOST_VALUE: u64 = 4294967295;
-
-// The most fraction digits of a numeral.
-pub const MOST_FRACTION: usize = 9;
-
 // How many characters a prefix has: the letter and the mark.
 pub const PREFIX: usize = 2;
 
@@ -35,15 +29,12 @@ pub struct Run {
     pub value: u64,
 }
 
-// A letter, A to Z or a to z.
+// A letter, A to Z or a to z: without what a small one stands behind its capital, both are capitals.
 pub fn is_letter(b: u8) -> bool
     ensures { λ r. ⌜ r ≡ isLetter b ⌝ }
 {
-    match b {
-        b'A'..=b'Z' => true,
-        b'a'..=b'z' => true,
-        _ => false,
-    }
+    let capital = b - b / SMALL % 2 * SMALL;
+    b'A' <= capital && capital <= b'Z'
 }
 
 // The capital of a small letter; any other byte is its own.
@@ -163,7 +154,7 @@ fn grow(v: u64, base: u8, d: u8) -> u64
     requires { ⌜ base ≤ 16 ⌝ }
     ensures { λ r. ⌜ r ≡ grown base v d ⌝ }
 {
-    if v <= MOST_VALUE {
+    if v <= rules::MOST_VALUE {
         v * base as u64 + d as u64
     } else {
         v

@@ -8,29 +8,8 @@ ghost use Rattle.rules.specs.Characters.{capital};
 ghost use Rattle.rules.specs.Records.{field, fieldBytes};
 ghost use Rattle.fields.specs.Units.{twoBytes, numeralBytes, unitBytes, Skips};
 
-// The tag of a D, H, O or B numeral.
-pub const NUMERAL: u8 = 7;
-
-// The tag of a keyed numeral.
-pub const KEYED: u8 = 8;
-
-// The tag of an identifier.
-pub const IDENTIFIER: u8 = 9;
-
-// The tag of a symbolic name.
-pub const SYMBOLIC: u8 = 10;
-
-// The tag of a string.
-pub const STRING: u8 = 11;
-
-// The bytes before a field's content: one of the tag, two of the length.
-pub const HEADER: usize = 3;
-
-// The bytes of a numeral's content: one of the letter, one of the fraction digits, four of the value.
-pub const NUMERAL_CONTENT: u8 = 6;
-
-// The bytes of a numeral's field.
-pub const NUMERAL_FIELD: usize = 9;
+// The bytes of a numeral's content, as its field says them.
+const NUMERAL_CONTENT: u8 = record_walk::NUMERAL_CONTENT as u8;
 
 // What the second byte from the end of a number counts.
 const SECOND: u32 = 256;
@@ -40,20 +19,6 @@ const THIRD: u32 = 65536;
 
 // What the fourth byte from the end of a number counts.
 const FOURTH: u32 = 16777216;
-
-// The number of four bytes, the high one first.
-pub fn number(a: u8, b: u8, c: u8, d: u8) -> u32
-    ensures { λ r. ⌜ r ≡ a * 16777216 + b * 65536 + c * 256 + d ⌝ }
-{
-    a as u32 * FOURTH + b as u32 * THIRD + c as u32 * SECOND + d as u32
-}
-
-// Where a field ends whose length has these two bytes, the high one first.
-pub fn field_end(a: u8, b: u8) -> usize
-    ensures { λ r. ⌜ r ≡ 3 + (a * 256 + b) ⌝ }
-{
-    HEADER + (a as usize * 256 + b as usize)
-}
 
 // Writes one byte.
 pub fn put_u8(out: &mut [u8], n: u8)
@@ -113,8 +78,8 @@ pub fn put_field(out: &mut [u8], tag: u8, content: &[u8]) -> usize
 {
     let n = content.len();
     put_header(out, tag, n as u16);
-    put_bytes(&mut out[HEADER..], content);
-    HEADER + n
+    put_bytes(&mut out[record_walk::HEADER..], content);
+    record_walk::HEADER + n
 }
 
 // Writes the field of a keyed numeral, its letters as capitals. Returns how many bytes it wrote.
@@ -124,9 +89,9 @@ fn put_keyed(out: &mut [u8], content: &[u8]) -> usize
         × (now (out .exit) ≡ over (fieldBytes (field 8 (map capital (now (content .entry))))) (now (out .entry))) ⌝ }
 {
     let n = content.len();
-    put_header(out, KEYED, n as u16);
-    put_capitals(&mut out[HEADER..], content);
-    HEADER + n
+    put_header(out, record_walk::KEYED, n as u16);
+    put_capitals(&mut out[record_walk::HEADER..], content);
+    record_walk::HEADER + n
 }
 
 // Writes the field of a D, H, O or B numeral.
@@ -134,7 +99,7 @@ pub fn put_numeral(out: &mut [u8], letter: u8, fraction: u8, value: u32)
     requires { ⌜ 9 ≤ length (now out) ⌝ }
     ensures { λ r. ⌜ now (out .exit) ≡ over (numeralBytes letter fraction value) (now (out .entry)) ⌝ }
 {
-    out[0] = NUMERAL;
+    out[0] = record_walk::NUMERAL;
     out[1] = 0;
     out[2] = NUMERAL_CONTENT;
     out[3] = letter;
@@ -155,10 +120,10 @@ pub fn unit_len(word: &[u8], unit: units::Word) -> usize
             letter,
             fraction,
             value,
-        } => NUMERAL_FIELD,
-        units::Word::Keyed { skip } => HEADER + (word.len() - skip),
-        units::Word::Identifier => HEADER + word.len(),
-        units::Word::Symbolic => HEADER + word.len(),
+        } => record_walk::NUMERAL_FIELD,
+        units::Word::Keyed { skip } => record_walk::HEADER + (word.len() - skip),
+        units::Word::Identifier => record_walk::HEADER + word.len(),
+        units::Word::Symbolic => record_walk::HEADER + word.len(),
         units::Word::Unreadable => 0,
         units::Word::TooBig => 0,
     }
@@ -177,11 +142,11 @@ pub fn put_unit(out: &mut [u8], word: &[u8], unit: units::Word) -> usize
             value,
         } => {
             put_numeral(out, letter, fraction, value);
-            NUMERAL_FIELD
+            record_walk::NUMERAL_FIELD
         }
         units::Word::Keyed { skip } => put_keyed(out, &word[skip..]),
-        units::Word::Identifier => put_field(out, IDENTIFIER, word),
-        units::Word::Symbolic => put_field(out, SYMBOLIC, word),
+        units::Word::Identifier => put_field(out, record_walk::IDENTIFIER, word),
+        units::Word::Symbolic => put_field(out, record_walk::SYMBOLIC, word),
         units::Word::Unreadable => 0,
         units::Word::TooBig => 0,
     }

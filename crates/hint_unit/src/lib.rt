@@ -102,7 +102,7 @@ pub fn why_big(word: &[u8], base: u8) -> Hint {
 
 // Which limit a numeral passes that has so many fraction digits.
 fn excess(word: &[u8], base: u8, fraction: usize) -> u8 {
-    if digits::MOST_FRACTION < fraction {
+    if rules::MOST_FRACTION < fraction {
         return FRACTION_DIGITS;
     }
     if 0 < fraction {

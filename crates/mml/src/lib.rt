@@ -28,14 +28,14 @@ pub fn print(rec: &[u8], out: &mut [u8]) -> Answer
 pub fn order(rec: &[u8], k: u64, out: &mut [u8]) -> Answer
     ensures { λ r. ⌜ Orders (now (rec .entry)) k (now (out .entry)) r (now (out .exit)) ⌝ }
 {
-    orders::order(rec, k, out)
+    order::order(rec, k, out)
 }
 
 // Counts the orders of a record.
 pub fn count(rec: &[u8]) -> Answer
     ensures { λ r. ⌜ Counts (now (rec .entry)) r ⌝ }
 {
-    records::count(rec)
+    judge::count(rec)
 }
 
 // One key to a line keeper.

@@ -25,7 +25,7 @@ ghost use Rattle.token_table.specs.Parts.{partsFrom};
 ghost use Rattle.read_command.specs.Blocks.{counted, opened, HasKind, placesRead, blockRead, blocksRead, tallyRead, commandRead};
 
 // The bytes of a block's own field: tag, length, kind.
-const BLOCK_FIELD: u64 = 4;
+const BLOCK_FIELD: u64 = record_walk::LETTER_FIELD as u64;
 
 // What the places so far come to: their number, the bytes of the fields, the product of their numbers of arguments, whether the next one
 // would have passed the limit, and the place of the first value where it did.

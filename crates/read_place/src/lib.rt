@@ -26,7 +26,7 @@ ghost use Rattle.token_table.specs.Parts.{placeOr};
 ghost use Rattle.read_place.specs.Places.{valueRead, placeRead, Sized, ReadsNamed, ReadsPlace};
 
 // The bytes of a place's own field: tag, length, letter.
-const PLACE_FIELD: u32 = 4;
+const PLACE_FIELD: u32 = record_walk::LETTER_FIELD as u32;
 // The key of a place that has no name.
 const NO_NAME: u32 = 0;
 

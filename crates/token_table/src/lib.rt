@@ -45,7 +45,7 @@ const PART: u64 = 65536;
 // The largest size that is counted.
 const MOST: u64 = 4294967295;
 // The bytes of a field before its content: tag and length.
-const HEAD: u64 = 3;
+const HEAD: u64 = record_walk::HEADER as u64;
 
 // Nothing wrong, or a refusal's number and place.
 pub enum Verdict {

@@ -29,10 +29,10 @@ pub enum Word {
 fn sized_unit(letter: u8, fraction: usize, value: u64) -> Word
     ensures { λ r. ⌜ r ≡ sized letter fraction value ⌝ }
 {
-    if digits::MOST_VALUE < value {
+    if rules::MOST_VALUE < value {
         return Word::TooBig;
     }
-    if digits::MOST_FRACTION < fraction {
+    if rules::MOST_FRACTION < fraction {
         return Word::TooBig;
     }
     Word::Numeral {

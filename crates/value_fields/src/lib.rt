@@ -20,20 +20,8 @@ ghost use Rattle.laws.specs.Over.{over};
 ghost use Rattle.rules.specs.Records.{fourBytes, field, fieldBytes};
 ghost use Rattle.value_fields.specs.Writes.{Fits, PutValue};
 
-// How many bytes a field has before its content, and the whole field of a range element with its upper end and increment.
-const FIELD_HEAD: usize = 3;
-
-const RANGE_FIELD: usize = 11;
-
-// The tags of a single element, of a range element and of a string.
-const SINGLE: u8 = 5;
-
-const RANGE: u8 = 6;
-
-const STRING: u8 = 11;
-
-// The content of a range element's field.
-const RANGE_CONTENT: u8 = 8;
+// The bytes of a range's content, as its field says them.
+const RANGE_CONTENT: u8 = record_walk::RANGE_CONTENT as u8;
 
 // How many bytes the n-th unit's field takes.
 fn unit_len(toks: &[u64], contents: &[u8], base: u8, n: usize) -> usize
@@ -49,7 +37,7 @@ fn unit_len(toks: &[u64], contents: &[u8], base: u8, n: usize) -> usize
             units::read_word(&contents[from..to], base),
         );
     }
-    FIELD_HEAD + (to - from)
+    record_walk::HEADER + (to - from)
 }
 
 // How many bytes the fields of `leads` units from the n-th on take.
@@ -71,13 +59,13 @@ fn head_len(x: Shape) -> usize
     ensures { λ r. ⌜ r ≡ length (headBytes x) ⌝ }
 {
     match x {
-        Shape::Single { next } => FIELD_HEAD,
+        Shape::Single { next } => record_walk::HEADER,
         Shape::Range {
             upper,
             inc,
             more,
             next,
-        } => RANGE_FIELD,
+        } => record_walk::RANGE_FIELD,
         Shape::Refused { no, place } => 0,
     }
 }
@@ -155,7 +143,7 @@ pub fn value_len(toks: &[u64], contents: &[u8], base: u8) -> usize
     ensures { λ r. ⌜ ValueLen (now (toks .entry)) (now (contents .entry)) base r ⌝ }
 {
     if toks.len() == 1 {
-        return FIELD_HEAD + unit_len(toks, contents, base, 0);
+        return record_walk::HEADER + unit_len(toks, contents, base, 0);
     }
     elements_len(toks, contents, base)
 }
@@ -176,7 +164,7 @@ fn put_unit(out: &mut [u8], toks: &[u64], contents: &[u8], base: u8, n: usize) -
             units::read_word(&contents[from..to], base),
         );
     }
-    fields::put_field(out, STRING, &contents[from..to])
+    fields::put_field(out, record_walk::STRING, &contents[from..to])
 }
 
 // The fields of `leads` units from the n-th on. Returns how many bytes it wrote.
@@ -206,7 +194,7 @@ fn put_range(out: &mut [u8], upper: u32, inc: u32)
     requires { ⌜ 11 ≤ length (now out) ⌝ }
     ensures { λ r. ⌜ now (out .exit) ≡ over (fieldBytes (field 6 (fourBytes upper ++ fourBytes inc))) (now (out .entry)) ⌝ }
 {
-    out[0] = RANGE;
+    out[0] = record_walk::RANGE;
     out[1] = 0;
     out[2] = RANGE_CONTENT;
     out[3] = (upper / 16777216) as u8;
@@ -225,7 +213,7 @@ fn put_head(out: &mut [u8], x: Shape) -> usize
     ensures { λ r. ⌜ (r ≡ length (headBytes x)) × (now (out .exit) ≡ over (headBytes x) (now (out .entry))) ⌝ }
 {
     match x {
-        Shape::Single { next } => fields::put_field(out, SINGLE, b""),
+        Shape::Single { next } => fields::put_field(out, record_walk::SINGLE, b""),
         Shape::Range {
             upper,
             inc,
@@ -233,7 +221,7 @@ fn put_head(out: &mut [u8], x: Shape) -> usize
             next,
         } => {
             put_range(out, upper, inc);
-            RANGE_FIELD
+            record_walk::RANGE_FIELD
         }
         Shape::Refused { no, place } => 0,
     }
@@ -287,7 +275,7 @@ pub fn put_value(out: &mut [u8], toks: &[u64], contents: &[u8], base: u8) -> usi
     ensures { λ r. ⌜ PutValue (now (toks .entry)) (now (contents .entry)) base r (now (out .entry)) (now (out .exit)) ⌝ }
 {
     if toks.len() == 1 {
-        let p = fields::put_field(out, SINGLE, b"");
+        let p = fields::put_field(out, record_walk::SINGLE, b"");
         return p + put_unit(&mut out[p..], toks, contents, base, 0);
     }
     put_elements(out, toks, contents, base)

@@ -1,0 +1,8 @@
+pub mod NamesLaws
+pub mod SpanLaws
+pub mod NextLaws
+pub mod PlacesLaws
+pub mod BlocksLaws
+pub mod PlacesBytes
+pub mod RecordBytes
+pub mod JudgeLaws

@@ -1,0 +1,139 @@
+-- A place that was read is written to the same bytes again, so it stands behind those before it; and in a named block its name is told by theirs.
+use mathlib.Core.Path.{_≡_, sym, ap, ap₂, _∙_}
+use mathlib.Core.Bool.{Bool, true, false, _||_, not, false≢true}
+use mathlib.Core.List.{List, [], _∷_, _++_, map, append-assoc, append-nil}
+use mathlib.Core.Option.{none}
+use Prim.Native.Nat.{ℕ, _+_, _-_, _≤_}
+use native.Mathlib.Omega.{arith}
+use borrow.Author.Tests.{eq-eqb}
+use lib.ListN.{length, take, drop, length-append, length-drop, length-take, take-append-drop}
+use lib.Seq.{take-at, drop-drop}
+use Rattle.rules.specs.Units.{letter}
+use Rattle.rules.specs.Commands.{Place, place, placeName}
+use Rattle.rules.specs.Records.{placeTag, nameTag, field, fieldBytes, bytesOf, many, elementFields, placeFields}
+use Rattle.rules.specs.WellFormed.{wfPlace}
+use Rattle.rules.proofs.FieldLaws.{bytes-append, many-append}
+use Rattle.record_walk.specs.Fronts.{tagOf}
+use Rattle.record_walk.specs.Runs.{Whole, bytesIn}
+use Rattle.record_walk.specs.Spans.{size, headFields}
+use Rattle.record_walk.proofs.FrontLaws.{Small, small-drop}
+use Rattle.record_walk.proofs.RunLaws.{drop-behind}
+use Rattle.marks.specs.Marks.{addedIf}
+use Rattle.marks.specs.declared.Marks.{Marks}
+use Rattle.judge_place.specs.Places.{onePlace}
+use Rattle.judge_place.specs.Judging.{PlaceIs}
+use Rattle.judge_place.proofs.PlaceBytes.{place-is}
+use Rattle.judge_names.specs.Names.{nameBytes, isNameOf, allMarked, Tells}
+use Rattle.judge_names.specs.declared.Told.the-variants.{Once, Twice}
+use Rattle.judge_names.proofs.ToldLaws.{all-marked}
+use Rattle.judge.specs.Blocks.{freshPlace}
+use Rattle.judge.specs.Judged.{Stand, NextIs, IsNext}
+use Rattle.judge.specs.declared.Next.the-variants.{Is, Bad as NoNext}
+
+-- ---- a place's parts
+
+-- a place's value ends behind its beginning
+pub head-first : (p : Place) → size (headFields p) ≤ size (placeFields p)
+head-first (place b nm v) =
+    let n = map (λ w. field nameTag w) nm in
+    omega (arith, ap length (bytes-append n (many elementFields v)), length-append (bytesOf n) (bytesOf (many elementFields v)))
+
+-- a name stands behind the place's field
+name-behind : (p : Place) → size (headFields p) ≡ 4 + length (nameBytes (placeName p))
+name-behind (place b nm v) = omega arith
+
+-- a named place has a name
+name-long : (p : Place) → wfPlace true p ≡ true → 3 ≤ length (nameBytes (placeName p))
+name-long (place b [] v) h = absurd (false≢true h)
+name-long (place b (w ∷ nm) v) h = omega arith
+
+-- the name of the place that stands there
+name-there : (rec : List ℕ) (at begin : ℕ) (p : Place) (rest : List ℕ) → drop at rec ≡ bytesOf (placeFields p) ++ rest → begin ≡ at + size (headFields p)
+    → bytesIn rec (at + 4) begin ≡ nameBytes (placeName p)
+name-there rec at begin (place b nm v) rest e q =
+    let f : List ℕ = fieldBytes (field placeTag (letter b ∷ [])) in
+    let ns : List ℕ = nameBytes nm in
+    let vs : List ℕ = bytesOf (many elementFields v) ++ rest in
+    let joined : bytesOf (map (λ w. field nameTag w) nm ++ many elementFields v) ++ rest ≡ ns ++ vs =
+    ap (λ (x : List ℕ). x ++ rest) (bytes-append (map (λ w. field nameTag w) nm) (many elementFields v)) ∙ append-assoc ns (bytesOf (many elementFields v)) rest in
+    let d : drop (at + 4) rec ≡ ns ++ vs = drop-behind rec at f (ns ++ vs) (e ∙ ap (λ (x : List ℕ). f ++ x) joined) in
+    ap (take (begin - (at + 4))) d ∙ take-at ns vs (begin - (at + 4)) (omega arith)
+
+-- ---- the next place
+
+pub next-none : (named : Bool) (rec : List ℕ) (from at : ℕ) (m : Marks) → onePlace named (drop at rec) ≡ none → IsNext named rec from at m NoNext
+unfolding freshPlace
+next-none named rec from at m e ps st = rw e
+
+-- places that stand in a record are fields
+pub places-whole : {named : Bool} {rec : List ℕ} {from at : ℕ} {m : Marks} {ps : List Place} → Stand named rec from at m ps → Whole (bytesIn rec from at) 0
+places-whole {ps = ps} st = record { fs = many placeFields ps; is = st .bytes; inside = omega arith }
+
+module _ (named : Bool) (rec : List ℕ) (from at : ℕ) {n begin k : ℕ} (t : tagOf (drop at rec) ≡ placeTag) (sm : Small rec) (d : PlaceIs named rec at n begin k) where
+  abbrev here : List ℕ
+  here = bytesOf (placeFields (d .p))
+
+  place-read : (wfPlace named (d .p) ≡ true) × (drop at rec ≡ here ++ drop k rec)
+  place-read = place-is named (drop at rec) (d .p) (drop k rec) (small-drop at rec sm) (eq-eqb (tagOf (drop at rec)) placeTag t) (d .is)
+
+  name-bytes : bytesIn rec (at + 4) begin ≡ nameBytes (placeName (d .p))
+  name-bytes = name-there rec at begin (d .p) (drop k rec) (place-read .1) (d .begins)
+
+  pub name-enough : named ≡ true → 3 ≤ length (bytesIn rec (at + 4) begin)
+  name-enough y = rw name-bytes (name-long (d .p) (rw y at (place-read .0)))
+
+  pub begin-behind : at + 4 ≤ begin
+  begin-behind = omega (arith, d .begins, name-behind (d .p))
+
+  pub begin-inside : begin ≤ length rec
+  begin-inside = omega (arith, d .begins, d .ends, d .inside, head-first (d .p))
+
+  module _ {m : Marks} (ps : List Place) (st : Stand named rec from at m ps) where
+    abbrev those : List ℕ
+    those = bytesOf (many placeFields ps)
+
+    those-long : length those ≡ at - from
+    those-long = omega (arith, st .order, st .inside, ap length (st .bytes), length-take (at - from) (drop from rec), length-drop from rec)
+
+    both-there : bytesIn rec from k ≡ those ++ here
+    both-there =
+        let on : from + (at - from) ≡ at = omega (arith, st .order) in
+        let rest : drop (at - from) (drop from rec) ≡ here ++ drop k rec = drop-drop (at - from) from rec ∙ ap (λ (i : ℕ). drop i rec) on ∙ place-read .1 in
+        let all-there : drop from rec ≡ (those ++ here) ++ drop k rec =
+        sym (take-append-drop (at - from) (drop from rec)) ∙ ap₂ (λ (x y : List ℕ). x ++ y) (st .bytes) rest ∙ sym (append-assoc those here (drop k rec)) in
+        let long : length (those ++ here) ≡ k - from = omega (arith, d .ends, those-long, st .order, length-append those here) in
+        ap (take (k - from)) all-there ∙ take-at (those ++ here) (drop k rec) (k - from) long
+
+    stand-more : (m′ : Marks) → not named || allMarked m′ (ps ++ (d .p ∷ [])) ≡ true → Stand named rec from k m′ (ps ++ (d .p ∷ []))
+    stand-more m′ h =
+        let joined : bytesOf (many placeFields (ps ++ (d .p ∷ []))) ≡ those ++ here =
+        ap bytesOf (many-append placeFields ps (d .p ∷ []) ∙ ap (λ x. many placeFields ps ++ x) (append-nil (placeFields (d .p)))) ∙ bytes-append (many placeFields ps) (placeFields (d .p)) in
+        record { order = omega (arith, st .order, d .ends); inside = d .inside; bytes = both-there ∙ sym joined; marks = h }
+
+    fresh-there : (u : ℕ) → not named || not (isNameOf ps (placeName (d .p))) ≡ true → not named || allMarked (addedIf named m u) (ps ++ (d .p ∷ [])) ≡ true
+        → NextIs named rec from at m ps n begin k u
+    unfolding freshPlace
+    fresh-there u f h =
+        record {
+          p = d .p;
+          is = rw (d .is, f);
+          arguments = d .arguments;
+          few = d .few;
+          begins = d .begins;
+          ends = d .ends;
+          more = stand-more (addedIf named m u) h;
+        }
+
+  module _ {m : Marks} where
+    pub next-unnamed : (u : ℕ) → named ≡ false → IsNext named rec from at m (Is n begin k u)
+    next-unnamed u y ps st = fresh-there ps st u (rw y) (rw y)
+
+    pub next-once : {u : ℕ} → Tells (bytesIn rec from at) (bytesIn rec (at + 4) begin) m (Once u) → named ≡ true → IsNext named rec from at m (Is n begin k u)
+    next-once {u} g y ps st =
+        let h : allMarked m ps ≡ true = rw y at (st .marks) in
+        let a = g ps (placeName (d .p)) (st .bytes) name-bytes h in
+        fresh-there ps st u (rw (y, a .0)) (rw (y, a .1) (all-marked m ps (d .p) h))
+
+    pub next-twice : Tells (bytesIn rec from at) (bytesIn rec (at + 4) begin) m Twice → named ≡ true → IsNext named rec from at m NoNext
+    unfolding freshPlace
+    next-twice g y ps st = rw (d .is, y, g ps (placeName (d .p)) (st .bytes) name-bytes (rw y at (st .marks)))

@@ -1,0 +1,40 @@
+-- `tell` meets its contract: the key is that of the name's bytes behind the first header, and the places are walked over only where it is marked.
+use mathlib.Core.Path.{_≡_, ap, _∙_}
+use denote.Ref.{now}
+use Rattle.marks.specs.Marks.{keyOf}
+use Rattle.record_walk.proofs.WalkLaws.{part-there}
+use Rattle.judge_names.specs.Names.{bytesKey}
+use Rattle.judge_names.proofs.ToldLaws.{told-twice, told-once}
+use borrow.Author.Needs.{needs}
+use Rattle.judge_names.proofs.tell.Statement.{statement}
+use Rattle.judge_names.proofs.tell.Tie as tie
+
+-- the key is that of the name's bytes
+name-key : (c : tie.After-key) → c .key .result ≡ bytesKey (now (c .before .before .before .before .args .name))
+name-key c = c .key .ensures ∙ ap (keyOf 0) (part-there (now (c .before .before .before .before .args .name)) 3)
+
+sub-key : tie.Need-sub-key
+sub-key c = search needs
+
+part-key-start : tie.Need-part-key-start
+part-key-start c = search needs
+
+part-key-end : tie.Need-part-key-end
+part-key-end c = search needs
+
+key-requires : tie.Need-key-requires
+key-requires c κs = search needs
+
+meets-requires : tie.Need-meets-requires
+meets-requires c κs = (c .before .before .before .before .pre .0, name-key c)
+
+returns : tie.Need-returns
+returns c = told-twice (c .before .before .before .before .before .before .args .known) (name-key (c .before .before)) (c .before .meets .ensures) (c .if1 .taken)
+
+returns-2 : tie.Need-returns-2
+returns-2 c = told-once (c .before .before .before .before .before .before .args .known) (name-key (c .before .before)) (c .before .meets .ensures) (c .if1 .left)
+
+pub tell-spec : {M : Type 1} → statement M
+tell-spec =
+    tie.close
+    (tie.spec sub-key part-key-start part-key-end key-requires meets-requires returns returns-2)

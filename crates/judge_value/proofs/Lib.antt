@@ -1,0 +1,6 @@
+pub mod UnitBytes
+pub mod UnitsLaws
+pub mod ElementLaws
+pub mod ElementBytes
+pub mod ValueLaws
+pub mod ValueBytes

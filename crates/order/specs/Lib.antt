@@ -1,0 +1,2 @@
+pub mod Reduced
+pub mod Plans

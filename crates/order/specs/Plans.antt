@@ -1,0 +1,97 @@
+-- The row: three numbers for each place. The judge leaves in it how many arguments the place has, and where its value begins and ends. Where the number
+-- stood, order k puts what becomes of the value.
+use mathlib.Core.Path.{_≡_}
+use mathlib.Core.Bool.{Bool, true, false}
+use mathlib.Core.List.{List, [], _∷_, _++_, map}
+use Prim.Native.Nat.{ℕ, _+_, _/_, _%_, _≤_}
+use lib.Dec.{eqb, ltb}
+use lib.ListN.{length, drop}
+use Rattle.laws.specs.Cases.{pick}
+use Rattle.rules.specs.Refusals.{ok, mostArguments}
+use Rattle.rules.specs.Commands.{Element, single, range, Place, place, Command, placeCount}
+use Rattle.rules.specs.Records.{fieldBytes, placeFields, rangeTag}
+use Rattle.rules.specs.WellFormed.{recordOf}
+use Rattle.record_walk.specs.Fronts.{tagOf}
+use Rattle.record_walk.specs.Runs.{bytesIn}
+use Rattle.record_walk.specs.Spans.{size, headFields, spansOf}
+use Rattle.order_argument.specs.Terms.{moreTerms, argumentBytes}
+use Rattle.order_argument.specs.declared.Argument.{Argument}
+use Rattle.order.specs.Reduced.{positionsOf, Part, kept, placed, partsOf, Below, placesIn}
+
+-- the row that the judge leaves
+pub record Told (rec row : List ℕ) : Type 0 where
+  pub tree : Command
+  pub is : recordOf rec ≡ ok tree
+  pub told : row ≡ spansOf tree
+
+-- ---- what becomes of a value
+
+-- the value stays as it is: no position is as high as this
+abbrev pub keptMark : ℕ
+keptMark = mostArguments
+
+-- "each value reduced to one argument as a single element": an omitted place has none, and one single element is that already
+abbrev pub isReduced : List Element → Bool
+isReduced [] = true
+isReduced (single l u ∷ []) = true
+isReduced (range l r lo up inc ∷ []) = false
+isReduced (single l u ∷ (e ∷ es)) = false
+isReduced (range l r lo up inc ∷ (e ∷ es)) = false
+
+-- its mark, or else the position
+abbrev pub slotOf : Place → ℕ → ℕ
+slotOf (place b nm v) n = pick (isReduced v) keptMark n
+
+-- the row of parts that stand in a record from a position on
+abbrev pub planOf : ℕ → List Part → List ℕ → List ℕ
+planOf at [] ns = []
+planOf at (kept f ∷ ps) ns = planOf (at + length (fieldBytes f)) ps ns
+planOf at (placed p ∷ ps) [] = []
+planOf at (placed p ∷ ps) (n ∷ ns) =
+    slotOf p n ∷ (at + size (headFields p)) ∷ (at + size (placeFields p)) ∷ planOf (at + size (placeFields p)) ps ns
+
+-- the positions in a row; a value that stays as it is has one argument, at 0
+abbrev pub positionIn : ℕ → ℕ
+positionIn n = pick (ltb n keptMark) n 0
+
+unfoldable pub positionsIn : List ℕ → List ℕ
+positionsIn [] = []
+positionsIn (n ∷ []) = []
+positionsIn (n ∷ (s ∷ [])) = []
+positionsIn (n ∷ (s ∷ (e ∷ row))) = positionIn n ∷ positionsIn row
+
+-- the row is a plan for this record
+pub record Planned (rec row : List ℕ) : Type 0 where
+  pub tree : Command
+  pub is : recordOf rec ≡ ok tree
+  pub below : Below (placesIn tree) (positionsIn row)
+  pub plan : row ≡ planOf 0 (partsOf tree) (positionsIn row)
+
+-- it is the plan of order k
+pub record Plans (rec : List ℕ) (k : ℕ) (row : List ℕ) : Type 0 where
+  pub planned : Planned rec row
+  pub positions : positionsIn row ≡ positionsOf (map placeCount (placesIn (planned .tree))) k
+
+-- ---- one place
+
+-- what is put where the number of arguments stood, of what is left of k: with one argument or none only a range is written anew
+unfoldable pub slotFor : List ℕ → ℕ → ℕ → ℕ → ℕ
+slotFor rec value number left = pick (ltb 1 number) (left % number) (pick (eqb (tagOf (drop value rec)) rangeTag) 0 keptMark)
+
+-- and what goes on to the place before
+unfoldable pub goesOn : ℕ → ℕ → ℕ
+goesOn number left = pick (ltb 1 number) (left / number) left
+
+-- ---- a value that is written anew
+
+-- the argument lies in the record behind the value's start, which lies behind `at`, and its element has the term
+pub record Within (rec : List ℕ) (at value : ℕ) (a : Argument) : Type 0 where
+  pub behind : at ≤ value
+  pub start : value ≤ a .start
+  pub end : a .start ≤ a .end
+  pub inside : a .end ≤ length rec
+  pub term : a .term ≤ moreTerms (bytesIn rec (a .start) (a .end))
+
+-- all from `at` up to the value as it is, then the argument
+unfoldable pub changed : List ℕ → ℕ → ℕ → Argument → List ℕ
+changed rec at value a = bytesIn rec at value ++ argumentBytes (bytesIn rec (a .start) (a .end)) (a .term)

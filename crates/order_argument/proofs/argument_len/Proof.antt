@@ -1,0 +1,24 @@
+-- `argument_len` meets its contract: a range's term is 8 bytes shorter than the range, and any other element is its own argument.
+use borrow.Author.Needs.{needs}
+use Rattle.order_argument.proofs.TermLaws.{range-long, argument-range, argument-whole}
+use mathlib.Core.Path.{sym, ap, _∙_}
+use denote.Ref.{now}
+use lib.ListN.{length}
+use native.Mathlib.Omega.{arith}
+use Rattle.order_argument.proofs.argument_len.Statement.{statement}
+use Rattle.order_argument.proofs.argument_len.Tie as tie
+
+is-range-requires : tie.Need-is-range-requires
+is-range-requires c κs = search needs
+
+sub-result : tie.Need-sub-result
+sub-result c = omega (arith, range-long (now (c .before .before .before .args .element)) (sym (c .before .is-range .ensures) ∙ c .if1 .taken))
+
+returns : tie.Need-returns
+returns c = λ n. sym (argument-range (now (c .before .before .before .args .element)) n (sym (c .before .is-range .ensures) ∙ c .if1 .taken))
+
+returns-2 : tie.Need-returns-2
+returns-2 c = λ n. sym (ap length (argument-whole (now (c .before .before .before .args .element)) n (sym (c .before .is-range .ensures) ∙ c .if1 .left)))
+
+pub argument-len-spec : {M : Type 1} → statement M
+argument-len-spec = tie.close (tie.spec is-range-requires sub-result returns returns-2)

@@ -1,0 +1,48 @@
+-- `more_terms` meets its contract: upper end and increment stand at the front of a range, the lower end at its back.
+use borrow.Author.Needs.{needs}
+use Rattle.order_argument.proofs.TermLaws.{range-long}
+use Rattle.order_argument.specs.Terms.{moreTerms}
+use mathlib.Core.Path.{sym, _∙_}
+use denote.Ref.{now}
+use native.Mathlib.Omega.{arith}
+use Rattle.order_argument.proofs.more_terms.Statement.{statement}
+use Rattle.order_argument.proofs.more_terms.Tie as tie
+
+is-range-requires : tie.Need-is-range-requires
+is-range-requires c κs = search needs
+
+sub-number-at : tie.Need-sub-number-at
+sub-number-at c = omega (arith, range-long (now (c .before .before .before .args .element)) (sym (c .before .is-range .ensures) ∙ c .if1 .taken))
+
+number-at-requires : tie.Need-number-at-requires
+number-at-requires c κs = omega (arith, range-long (now (c .before .before .before .args .element)) (sym (c .before .is-range .ensures) ∙ c .if1 .taken))
+
+number-at-requires-2 : tie.Need-number-at-requires-2
+number-at-requires-2 c κs = omega (arith, range-long (now (c .before .before .before .before .args .element)) (sym (c .before .before .is-range .ensures) ∙ c .before .if1 .taken))
+
+number-at-requires-3 : tie.Need-number-at-requires-3
+number-at-requires-3 c κs = omega (arith, range-long (now (c .before .before .before .before .before .args .element)) (sym (c .before .before .before .is-range .ensures) ∙ c .before .before .if1 .taken))
+
+steps-requires : tie.Need-steps-requires
+steps-requires c κs = search needs
+
+returns : tie.Need-returns
+unfolding moreTerms
+returns c = rw (← c .before .before .before .before .before .is-range .ensures, c .before .before .before .before .if1 .taken, c .steps .ensures, c .before .before .before .number-at .ensures, c .before .before .number-at2 .ensures, c .before .number-at3 .ensures)
+
+returns-2 : tie.Need-returns-2
+unfolding moreTerms
+returns-2 c = rw (← c .before .is-range .ensures, c .if1 .left)
+
+pub more-terms-spec : {M : Type 1} → statement M
+more-terms-spec =
+    tie.close
+    (tie.spec
+    is-range-requires
+    sub-number-at
+    number-at-requires
+    number-at-requires-2
+    number-at-requires-3
+    steps-requires
+    returns
+    returns-2)

@@ -1,0 +1,31 @@
+-- `term_value` meets its contract: no term is above the upper end, so product and sum fit.
+use Rattle.order_argument.proofs.TermLaws.{range-long, term-below}
+use Rattle.order_argument.specs.Terms.{termValue}
+use native.Mathlib.Omega.{arith}
+use denote.Ref.{now}
+use Rattle.order_argument.proofs.term_value.Statement.{statement}
+use Rattle.order_argument.proofs.term_value.Tie as tie
+
+sub-number-at : tie.Need-sub-number-at
+sub-number-at c = omega (arith, range-long (now (c .before .args .range)) (c .before .pre .0))
+
+number-at-requires : tie.Need-number-at-requires
+number-at-requires c κs = omega (arith, range-long (now (c .before .args .range)) (c .before .pre .0))
+
+number-at-requires-2 : tie.Need-number-at-requires-2
+number-at-requires-2 c κs = omega (arith, range-long (now (c .before .before .args .range)) (c .before .before .pre .0))
+
+mul-result : tie.Need-mul-result
+mul-result c = rw (c .number-at2 .ensures) (omega (arith, term-below (now (c .before .before .before .args .range)) (c .before .before .before .args .term) (c .before .before .before .pre .0) (c .before .before .before .pre .1), c .before .before .shared-slice-known .given 3, c .before .before .shared-slice-known .given 4, c .before .before .shared-slice-known .given 5, c .before .before .shared-slice-known .given 6))
+
+add-result : tie.Need-add-result
+add-result c = rw (c .number-at2 .ensures) (omega (arith, term-below (now (c .before .before .before .args .range)) (c .before .before .before .args .term) (c .before .before .before .pre .0) (c .before .before .before .pre .1), c .before .number-at .ensures, c .before .before .shared-slice-known .given 3, c .before .before .shared-slice-known .given 4, c .before .before .shared-slice-known .given 5, c .before .before .shared-slice-known .given 6))
+
+returns : tie.Need-returns
+unfolding termValue
+returns c = rw (c .number-at2 .ensures, c .before .number-at .ensures)
+
+pub term-value-spec : {M : Type 1} → statement M
+term-value-spec =
+    tie.close
+    (tie.spec sub-number-at number-at-requires number-at-requires-2 mul-result add-result returns)

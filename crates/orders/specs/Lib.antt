@@ -1,2 +1,0 @@
-pub mod Reduced
-pub mod Stretches

@@ -1,0 +1,2 @@
+pub mod TreeBound
+pub mod BoundLaws

@@ -1,0 +1,46 @@
+-- `number_bound` meets its contract: the tests decide which of the three bounds it is.
+use Rattle.print_bound.specs.Bounds.{decimalBound, numberBound}
+use borrow.Author.Tests.{lt-ltb, le-ltb}
+use borrow.Author.Needs.{needs}
+use Rattle.print_bound.proofs.number_bound.Statement.{statement}
+use Rattle.print_bound.proofs.number_bound.Tie as tie
+
+is-plain-requires : tie.Need-is-plain-requires
+is-plain-requires c κs = search needs
+
+stop-bound-requires : tie.Need-stop-bound-requires
+stop-bound-requires c κs = search needs
+
+add-result : tie.Need-add-result
+add-result c = search needs
+
+returns : tie.Need-returns
+unfolding numberBound decimalBound
+returns c = rw (← c .before .before .before .is-plain .ensures, c .before .before .if1 .taken, lt-ltb _ _ (c .before .if2 .taken), c .stop-bound .ensures)
+
+longer-bound-requires : tie.Need-longer-bound-requires
+longer-bound-requires c κs = search needs
+
+returns-2 : tie.Need-returns-2
+unfolding numberBound decimalBound
+returns-2 c = rw (← c .before .before .before .is-plain .ensures, c .before .before .if1 .taken, le-ltb _ _ (c .before .if2 .left)) (c .longer-bound .ensures)
+
+any-bound-requires : tie.Need-any-bound-requires
+any-bound-requires c κs = search needs
+
+returns-3 : tie.Need-returns-3
+unfolding numberBound
+returns-3 c = rw (← c .before .before .is-plain .ensures, c .before .if1 .left) (c .any-bound .ensures)
+
+pub number-bound-spec : {M : Type 1} → statement M
+number-bound-spec =
+    tie.close
+    (tie.spec
+    is-plain-requires
+    stop-bound-requires
+    add-result
+    returns
+    longer-bound-requires
+    returns-2
+    any-bound-requires
+    returns-3)

@@ -1,0 +1,4 @@
+pub mod PowerLaws
+pub mod TextLaws
+pub mod StringLaws
+pub mod UnitLaws

@@ -1,0 +1,23 @@
+-- In the short form the leading units are passed over.
+use borrow.Author.Needs.{needs}
+use borrow.Author.Tests.{eq-eqb, ne-eqb}
+use Rattle.print_value.specs.Values.{printedFrom}
+use Rattle.print_value.proofs.printed_from.Statement.{statement}
+use Rattle.print_value.proofs.printed_from.Tie as tie
+
+sub-result : tie.Need-sub-result
+sub-result c = search needs
+
+add-result : tie.Need-add-result
+add-result c = search needs
+
+returns : tie.Need-returns
+unfolding printedFrom
+returns c = rw (eq-eqb _ _ (c .if1 .taken))
+
+returns-2 : tie.Need-returns-2
+unfolding printedFrom
+returns-2 c = rw (ne-eqb _ _ (c .if1 .left))
+
+pub printed-from-spec : {M : Type 1} → statement M
+printed-from-spec = tie.close (tie.spec sub-result add-result returns returns-2)

@@ -1,4 +1,0 @@
-pub mod UnitTexts
-pub mod PrintLaws
-pub mod StepLaws
-pub mod EndLaws

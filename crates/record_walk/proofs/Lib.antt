@@ -1,0 +1,4 @@
+pub mod FrontLaws
+pub mod WalkLaws
+pub mod SeveralLaws
+pub mod RunLaws

@@ -1,0 +1,129 @@
+-- The walker's field is the field at the front of what stands there: the three tests are those of `front`.
+use mathlib.Core.Path.{_≡_, refl, sym, subst}
+use mathlib.Core.Bool.{Bool, true, false}
+use mathlib.Core.List.{List, [], _∷_}
+use mathlib.Core.Option.{none, some}
+use denote.Enum.Declared
+use types.Run
+use Prim.Native.Nat.{ℕ, zero, suc, _+_, _-_, _*_, _≤_, _<_}
+use native.Mathlib.Nat.{add-zero, not-suc-le-zero}
+use native.Mathlib.Omega.{arith}
+use borrow.Author.Tests.{lt-ltb, le-ltb, leb-false, ltb-false, leb-true, ltb-true}
+use lib.Dec.{leb, ltb}
+use lib.ListN.{length, getD, take, drop, length-drop, drop-of-length-le}
+use lib.Seq.{take-all, getD-drop, drop-drop, length-take-le}
+use Rattle.laws.specs.Cases.{pick-if, byBool}
+use Rattle.laws.specs.Keys.{None, none-above}
+use Rattle.rules.specs.Records.{field, stringTag}
+use Rattle.record_walk.specs.declared.Found.{Found}
+use Rattle.record_walk.specs.declared.Found.the-variants.{Field, Nothing}
+use Rattle.record_walk.specs.Fields.{fits, lengthAt, fieldAt}
+use Rattle.record_walk.specs.Fronts.{tagOf, front}
+use Rattle.record_walk.specs.Runs.{bytesIn}
+use Rattle.record_walk.proofs.Found as Found'
+use Rattle.record_walk.proofs.FrontLaws.{front-of, front-unfit, front-short}
+
+-- a tag that is none of the match's keys
+pub no-tag : (t : ℕ) → None t stringTag → (t ≡ 0 → ⊥) → 12 ≤ t
+no-tag zero r h = absurd (h refl)
+no-tag (suc t) r h = none-above (suc t) stringTag r (omega arith)
+
+-- ---- the turns of the function
+
+module _ (rec : List ℕ) (at : ℕ) where
+  pub field-short : length rec - at < 3 → Nothing ≡ fieldAt rec at
+  unfolding fieldAt
+  field-short h = rw (lt-ltb _ _ h)
+
+  pub field-cut : (n : ℕ) → n ≡ lengthAt rec at → 3 ≤ length rec - at → length rec - at - 3 < n → Nothing ≡ fieldAt rec at
+  unfolding fieldAt
+  field-cut n e h k = rw (le-ltb _ _ h, ← e, lt-ltb _ _ k)
+
+  pub field-fits : (n : ℕ) {f : Bool} → n ≡ lengthAt rec at → 3 ≤ length rec - at → n ≤ length rec - at - 3 → f ≡ fits (getD rec at 0) n → f ≡ true
+      → Field (getD rec at 0) (at + 3) (at + 3 + n) ≡ fieldAt rec at
+  unfolding fieldAt
+  field-fits n e h k q g = rw (le-ltb _ _ h, ← e, le-ltb _ _ k, ← q, g)
+
+  pub field-unfit : (n : ℕ) {f : Bool} → n ≡ lengthAt rec at → 3 ≤ length rec - at → n ≤ length rec - at - 3 → f ≡ fits (getD rec at 0) n → f ≡ false
+      → Nothing ≡ fieldAt rec at
+  unfolding fieldAt
+  field-unfit n e h k q g = rw (le-ltb _ _ h, ← e, le-ltb _ _ k, ← q, g)
+
+-- ---- what is found
+
+-- a field of tag t that stands at `at`, its content from s to k
+pub record IsField (rec : List ℕ) (at t s k : ℕ) : Type 0 where
+  pub tag : t ≡ tagOf (drop at rec)
+  pub start : s ≡ at + 3
+  pub ends : s ≤ k
+  pub inside : k ≤ length rec
+  pub fit : fits t (k - s) ≡ true
+  pub long : length (bytesIn rec s k) ≡ k - s
+  pub is : front (drop at rec) ≡ some (field t (bytesIn rec s k), drop k rec)
+
+abbrev pub Finds : List ℕ → ℕ → Found → Type 0
+Finds rec at (Field t s k) = IsField rec at t s k
+Finds rec at Nothing = front (drop at rec) ≡ none
+
+field-apart : Run.OneOf (1 ∷ []) 0 → ⊥
+field-apart e = omega arith
+
+module _ (rec : List ℕ) (at : ℕ) where
+  pub tag-there : tagOf (drop at rec) ≡ getD rec at 0
+  tag-there = rw (getD-drop, add-zero)
+
+  length-there : getD (drop at rec) 1 0 * 256 + getD (drop at rec) 2 0 ≡ lengthAt rec at
+  length-there = rw (getD-drop at rec 1 0, getD-drop at rec 2 0)
+
+  cut-off : length rec < at + 3 + lengthAt rec at → front (drop at rec) ≡ none
+  cut-off h = front-short (drop at rec) (lengthAt rec at) length-there (omega (arith, length-drop at rec))
+
+  stands-whole : at + 3 + lengthAt rec at ≤ length rec → fits (getD rec at 0) (lengthAt rec at) ≡ true
+      → IsField rec at (getD rec at 0) (at + 3) (at + 3 + lengthAt rec at)
+  stands-whole h f =
+      let n : ℕ = lengthAt rec at in
+      let room : 3 + n ≤ length (drop at rec) = omega (arith, length-drop at rec) in
+      let size : at + 3 + n - (at + 3) ≡ n = omega arith in
+      let behind : at + (3 + n) ≡ at + 3 + n = omega arith in
+      record {
+        tag = sym tag-there;
+        start = refl;
+        ends = omega arith;
+        inside = h;
+        fit = rw size f;
+        long = rw size (length-take-le n (drop (at + 3) rec) (omega (arith, length-drop (at + 3) rec)));
+        is = rw (size, front-of (drop at rec) (getD rec at 0) n tag-there length-there room f, drop-drop 3 at rec, drop-drop (3 + n) at rec, behind);
+      }
+
+  unfit : at + 3 + lengthAt rec at ≤ length rec → fits (getD rec at 0) (lengthAt rec at) ≡ false → front (drop at rec) ≡ none
+  unfit h f =
+      let room : 3 + lengthAt rec at ≤ length (drop at rec) = omega (arith, length-drop at rec) in
+      front-unfit (drop at rec) (getD rec at 0) (lengthAt rec at) tag-there length-there room f
+
+  finds-there : Finds rec at (fieldAt rec at)
+  unfolding fieldAt
+  finds-there =
+      let n : ℕ = lengthAt rec at in
+      pick-if (Finds rec at) (ltb (length rec - at) 3) (λ y. cut-off (omega (arith, ltb-true (length rec - at) 3 y)))
+      (λ y1. pick-if (Finds rec at) (ltb (length rec - at - 3) n)
+      (λ y. cut-off (omega (arith, ltb-false (length rec - at) 3 y1, ltb-true (length rec - at - 3) n y)))
+      (λ y2.
+      let room : at + 3 + n ≤ length rec = omega (arith, ltb-false (length rec - at) 3 y1, ltb-false (length rec - at - 3) n y2) in
+      pick-if (Finds rec at) (fits (getD rec at 0) n) (λ y. stands-whole room y) (λ y. unfit room y)))
+
+  pub finds : (r : Found) → r ≡ fieldAt rec at → Finds rec at r
+  finds r e = subst (Finds rec at) (sym e) finds-there
+
+  -- an answer that is no field, in the words of a `let .. else`
+  pub no-field : (r : Found) → Run.OneOf (1 ∷ []) (Declared.tagOf Found'.the-type r) → r ≡ fieldAt rec at → front (drop at rec) ≡ none
+  no-field (Field t s k) o e = absurd (field-apart o)
+  no-field Nothing o e = finds Nothing e
+
+  -- a part of a record from a position on
+  pub part-there : take (length rec - at) (drop at rec) ≡ drop at rec
+  part-there = take-all (length rec - at) (drop at rec) (simp length-drop (omega arith))
+
+  -- where a tag stands, the record goes on
+  pub tag-inside : 1 ≤ tagOf (drop at rec) → at < length rec
+  tag-inside h =
+      byBool (leb (length rec) at) (λ y. absurd (not-suc-le-zero (rw (drop-of-length-le rec (leb-true (length rec) at y)) at h))) (λ y. leb-false (length rec) at y)

@@ -1,0 +1,4 @@
+pub mod Fields
+pub mod Fronts
+pub mod Runs
+pub mod Spans

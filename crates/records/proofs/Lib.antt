@@ -1,7 +1,0 @@
-pub mod NamesLaws
-pub mod NextLaws
-pub mod PlacesLaws
-pub mod BlocksLaws
-pub mod PlacesBytes
-pub mod RecordBytes
-pub mod JudgeLaws

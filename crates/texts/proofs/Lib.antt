@@ -1,2 +1,0 @@
-pub mod PowerLaws
-pub mod TextLaws

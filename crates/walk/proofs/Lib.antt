@@ -1,2 +1,0 @@
-pub mod FrontLaws
-pub mod SeveralLaws
