@@ -16,7 +16,7 @@ use Rattle.rules.specs.Commands.{mult, Block, block, placesOf, allPlaces}
 use Rattle.rules.specs.Records.{blockTag, bytesOf, many, blockFields, kindOfByte}
 use Rattle.rules.specs.Orders.{blockCount}
 use Rattle.record_walk.specs.Fields.{fits}
-use Rattle.record_walk.specs.Fronts.{tagOf, front, before, several}
+use Rattle.record_walk.specs.Fronts.{headTag, front, before, several}
 use Rattle.record_walk.specs.Runs.{bytesIn}
 use Rattle.record_walk.specs.Spans.{size, placeSpans, blockHead, blockSpans}
 use Rattle.record_walk.proofs.WalkLaws.{IsField, tag-inside}
@@ -46,14 +46,14 @@ kind-no c h =
     byBool (eqb c (byte "N")) (λ y. absurd (false≢true (sym (rw y at h))))
     (λ y. byBool (eqb c (byte "P")) (λ z. absurd (false≢true (sym (rw (y, z) at h)))) (λ z. rw (y, z)))
 
-pub block-inside : (rec : List ℕ) (at : ℕ) → tagOf (drop at rec) ≡ blockTag → at ≤ length rec
+pub block-inside : (rec : List ℕ) (at : ℕ) → headTag (drop at rec) ≡ blockTag → at ≤ length rec
 block-inside rec at h = omega (arith, tag-inside rec at (omega arith))
 
 pub block-gone : (n o : ℕ) (r : List ℕ) → front r ≡ none → nextBlock (state n o) r ≡ none
 unfolding nextBlock
 block-gone n o r e = rw e
 
-module _ {rec : List ℕ} {at t s j : ℕ} (f : IsField rec at t s j) (two : tagOf (drop at rec) ≡ blockTag) where
+module _ {rec : List ℕ} {at t s j : ℕ} (f : IsField rec at t s j) (two : headTag (drop at rec) ≡ blockTag) where
   one-byte : j - s ≡ 1
   unfolding fits
   one-byte = eqb-true (j - s) 1 (rw (f .tag ∙ two) at (f .fit))
@@ -134,8 +134,8 @@ blocks-none rec from old h =
       told = λ l. refl;
     }
 
-module _ {rec : List ℕ} {from at left n o t : ℕ} {old row : List ℕ} (v : BlocksRead rec from old row at left n o) (e : t ≡ tagOf (drop at rec)) where
-  is-block : t ≡ blockTag → isTag blockTag (tagOf (drop at rec)) ≡ true
+module _ {rec : List ℕ} {from at left n o t : ℕ} {old row : List ℕ} (v : BlocksRead rec from old row at left n o) (e : t ≡ headTag (drop at rec)) where
+  is-block : t ≡ blockTag → isTag blockTag (headTag (drop at rec)) ≡ true
   is-block h = subst (λ y. isTag blockTag y ≡ true) e (eq-eqb t blockTag h)
 
   gone : someBlocks (drop from rec) ≡ none → blocks (drop from rec) ≡ none

@@ -13,7 +13,7 @@ use Rattle.rules.specs.Commands.{Place, place, placeName}
 use Rattle.rules.specs.Records.{placeTag, nameTag, field, fieldBytes, bytesOf, many, elementFields, placeFields}
 use Rattle.rules.specs.WellFormed.{wfPlace}
 use Rattle.rules.proofs.FieldLaws.{bytes-append, many-append}
-use Rattle.record_walk.specs.Fronts.{tagOf}
+use Rattle.record_walk.specs.Fronts.{headTag}
 use Rattle.record_walk.specs.Runs.{Whole, bytesIn}
 use Rattle.record_walk.specs.Spans.{size, headFields}
 use Rattle.record_walk.proofs.FrontLaws.{Small, small-drop}
@@ -69,12 +69,12 @@ next-none named rec from at m e ps st = rw e
 pub places-whole : {named : Bool} {rec : List ℕ} {from at : ℕ} {m : Marks} {ps : List Place} → Stand named rec from at m ps → Whole (bytesIn rec from at) 0
 places-whole {ps = ps} st = record { fs = many placeFields ps; is = st .bytes; inside = omega arith }
 
-module _ (named : Bool) (rec : List ℕ) (from at : ℕ) {n begin k : ℕ} (t : tagOf (drop at rec) ≡ placeTag) (sm : Small rec) (d : PlaceIs named rec at n begin k) where
+module _ (named : Bool) (rec : List ℕ) (from at : ℕ) {n begin k : ℕ} (t : headTag (drop at rec) ≡ placeTag) (sm : Small rec) (d : PlaceIs named rec at n begin k) where
   abbrev here : List ℕ
   here = bytesOf (placeFields (d .p))
 
   place-read : (wfPlace named (d .p) ≡ true) × (drop at rec ≡ here ++ drop k rec)
-  place-read = place-is named (drop at rec) (d .p) (drop k rec) (small-drop at rec sm) (eq-eqb (tagOf (drop at rec)) placeTag t) (d .is)
+  place-read = place-is named (drop at rec) (d .p) (drop k rec) (small-drop at rec sm) (eq-eqb (headTag (drop at rec)) placeTag t) (d .is)
 
   name-bytes : bytesIn rec (at + 4) begin ≡ nameBytes (placeName (d .p))
   name-bytes = name-there rec at begin (d .p) (drop k rec) (place-read .1) (d .begins)

@@ -18,7 +18,7 @@ use Rattle.rules.specs.WellFormed.{wfPlace, namesDiffer, wfBlock}
 use Rattle.rules.proofs.CommandBack.{mult-pos}
 use Rattle.rules.proofs.Names.{block-places, block-names}
 use Rattle.rules.proofs.ValueBack.{and-both}
-use Rattle.record_walk.specs.Fronts.{tagOf}
+use Rattle.record_walk.specs.Fronts.{headTag}
 use Rattle.record_walk.proofs.FrontLaws.{only-some, Small}
 use Rattle.record_walk.proofs.SeveralLaws.{goods, several-is, several-all}
 use Rattle.judge_place.specs.Places.{isTag, onePlace}
@@ -33,7 +33,7 @@ module _ (named : Bool) where
   abbrev allGood : ℕ → List Place → Bool
   allGood o ps = goods (isTag placeTag) (nextPlace named) withPlace good placeFields o ps
 
-  next-is : (o : ℕ) (r : List ℕ) (p : Place) (r′ : List ℕ) → Small r → isTag placeTag (tagOf r) ≡ true → nextPlace named o r ≡ some (p, r′)
+  next-is : (o : ℕ) (r : List ℕ) (p : Place) (r′ : List ℕ) → Small r → isTag placeTag (headTag r) ≡ true → nextPlace named o r ≡ some (p, r′)
       → (good o p ≡ true) × (r ≡ bytesOf (placeFields p) ++ r′)
   unfolding nextPlace
   next-is o r p r′ s h e =
@@ -44,15 +44,15 @@ module _ (named : Bool) where
   abbrev ended : ℕ → Bool
   ended t = ltb t nameTag
 
-  next-back : (o : ℕ) (p : Place) (rest : List ℕ) → good o p ≡ true → ended (tagOf rest) ≡ true → nextPlace named o (bytesOf (placeFields p) ++ rest) ≡ some (p, rest)
+  next-back : (o : ℕ) (p : Place) (rest : List ℕ) → good o p ≡ true → ended (headTag rest) ≡ true → nextPlace named o (bytesOf (placeFields p) ++ rest) ≡ some (p, rest)
   unfolding nextPlace
   next-back o p rest h t =
-      rw (place-back named p rest (and-l (wfPlace named p) (leb (o * placeCount p) mostOrders) h) (ltb-true (tagOf rest) nameTag t), and-r (wfPlace named p) (leb (o * placeCount p) mostOrders) h)
+      rw (place-back named p rest (and-l (wfPlace named p) (leb (o * placeCount p) mostOrders) h) (ltb-true (headTag rest) nameTag t), and-r (wfPlace named p) (leb (o * placeCount p) mostOrders) h)
 
-  opens : (p : Place) (rest : List ℕ) → isTag placeTag (tagOf (bytesOf (placeFields p) ++ rest)) ≡ true
+  opens : (p : Place) (rest : List ℕ) → isTag placeTag (headTag (bytesOf (placeFields p) ++ rest)) ≡ true
   opens (place b nm v) rest = refl
 
-  closes : (p : Place) (rest : List ℕ) → ended (tagOf (bytesOf (placeFields p) ++ rest)) ≡ true
+  closes : (p : Place) (rest : List ℕ) → ended (headTag (bytesOf (placeFields p) ++ rest)) ≡ true
   closes (place b nm v) rest = refl
 
   -- ---- the orders
@@ -123,12 +123,12 @@ module _ (named : Bool) where
       })
 
   pub places-back : (n o : ℕ) (ps : List Place) (rest : List ℕ) → wfBlock (block named ps) ≡ true → length ps ≤ n → o * mult (map placeCount ps) ≤ mostOrders
-      → tagOf rest < placeTag → places named n o (bytesOf (many placeFields ps) ++ rest) ≡ some (ps, rest)
+      → headTag rest < placeTag → places named n o (bytesOf (many placeFields ps) ++ rest) ≡ some (ps, rest)
   unfolding places
   places-back n o ps rest h l m k =
       rw (
         several-all (isTag placeTag) (nextPlace named) withPlace good placeFields ended next-back opens closes ps n o rest (all-good o ps (block-places named ps h) m) l
-            (ne-eqb (tagOf rest) placeTag (λ e. omega arith)) (lt-ltb (tagOf rest) nameTag (omega arith)),
+            (ne-eqb (headTag rest) placeTag (λ e. omega arith)) (lt-ltb (headTag rest) nameTag (omega arith)),
         block-some ps h,
         block-names named ps h,
       )

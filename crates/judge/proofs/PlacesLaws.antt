@@ -6,11 +6,11 @@ use mathlib.Core.Option.{none, some}
 use Prim.Native.Nat.{ℕ, zero, suc, _+_, _-_, _*_, _≤_, _<_}
 use native.Mathlib.Nat.{mul-one}
 use native.Mathlib.Omega.{arith}
-use borrow.Author.Tests.{eq-eqb, ne-eqb, le-leb, lt-leb, not-true}
+use borrow.Author.Tests.{eq-eqb, ne-eqb, le-leb, lt-leb, leb-true, leb-false, not-true}
 use lib.Dec.{leb}
 use lib.ListN.{length, take, drop, length-append, length-take, length-drop}
 use lib.Arith.{lt-of-le-ne}
-use Rattle.laws.specs.Cases.{pick, byBool, byOption, none≢some, and-false, or-true}
+use Rattle.laws.specs.Cases.{pick, pick-if, byBool, byOption, none≢some, and-false, or-true}
 use Rattle.laws.specs.Lists.{isNil}
 use Rattle.rules.specs.Refusals.{mostPlaces, mostOrders}
 use Rattle.rules.specs.Commands.{Element, Place, place, placeName, placeCount, terms, sum, mult}
@@ -18,7 +18,7 @@ use Rattle.rules.specs.Records.{placeTag, many, placeFields}
 use Rattle.rules.specs.WellFormed.{namesDiffer}
 use Rattle.rules.proofs.CommandBack.{mult-append}
 use Rattle.rules.proofs.Counts.{terms-pos}
-use Rattle.record_walk.specs.Fronts.{Read, only, tagOf, before, several}
+use Rattle.record_walk.specs.Fronts.{Read, only, headTag, before, several}
 use Rattle.record_walk.specs.Spans.{size, argumentsOf, placeSpans}
 use Rattle.record_walk.proofs.FrontLaws.{only-some}
 use Rattle.record_walk.proofs.SeveralLaws.{before-nil, going-end, going-full, going-bad, going-more}
@@ -27,7 +27,9 @@ use Rattle.marks.specs.Marks.{addedIf}
 use Rattle.marks.specs.declared.Marks.{Marks}
 use Rattle.judge_names.specs.Names.{isNameOf}
 use Rattle.judge.specs.Blocks.{counted, nextPlace, withPlace, somePlaces, mayBeBlock, places, freshPlace}
-use Rattle.judge.specs.Judged.{perPlace, rowLength, mostTold, toldAt, Stand, NextIs, PlacesAre}
+use Rattle.judge.specs.Judged.{perPlace, rowLength, mostTold, toldAt, ordersOf, Stand, NextIs, PlacesAre}
+use Rattle.judge.specs.declared.Orders.{Orders}
+use Rattle.judge.specs.declared.Orders.the-variants.{Are as OrdersAre, TooMany}
 use Rattle.judge.proofs.NamesLaws.{differ-more, differ-not}
 use Rattle.judge.proofs.SpanLaws.{told-long, told-take, spans-more}
 use Rattle.judge.proofs.NextLaws.{head-first}
@@ -50,6 +52,17 @@ unfolding counted
 times-one t zero h = sym (mul-one t)
 times-one t (suc zero) h = sym (mul-one t)
 times-one t (suc (suc n)) h = absurd (omega arith)
+
+-- what an answer on orders says
+abbrev pub IsOrders : ℕ → Orders → Type 0
+IsOrders n (OrdersAre m) = (m ≡ n) × (m ≤ mostOrders)
+IsOrders n TooMany = mostOrders < n
+
+orders-there : (n : ℕ) → IsOrders n (ordersOf n)
+orders-there n = pick-if (IsOrders n) (leb n mostOrders) (λ y. (refl, leb-true n mostOrders y)) (λ y. leb-false n mostOrders y)
+
+pub orders-is : (n : ℕ) (r : Orders) → r ≡ ordersOf n → IsOrders n r
+orders-is n r e = subst (IsOrders n) (sym e) (orders-there n)
 
 -- where places stand that begin at `from`
 stand-ends : {named : Bool} {rec : List ℕ} {from at : ℕ} {m : Marks} {ps : List Place} → Stand named rec from at m ps → at ≡ from + size (many placeFields ps)
@@ -105,20 +118,22 @@ places-none named rec from n o old m h k s =
       differ = or-true (not named);
     }
 
-module _ {named : Bool} {rec : List ℕ} {from n o : ℕ} {old new : List ℕ} {at n′ o′ t : ℕ} {m : Marks} (v : PlacesRead named rec from n o old new at n′ o′ m) (e : t ≡ tagOf (drop at rec)) where
-  is-place : t ≡ placeTag → isTag placeTag (tagOf (drop at rec)) ≡ true
+-- where no place stands first, there is no block
+pub no-place : (named : Bool) (n o : ℕ) (r : List ℕ) {t : ℕ} → t ≡ headTag r → (t ≡ placeTag → ⊥) → places named (mostPlaces - n) o r ≡ none
+unfolding places
+no-place named n o r {t} e h =
+    rw (going-end (isTag placeTag) (nextPlace named) withPlace [] (mostPlaces - n) o r (before-nil (somePlaces named (mostPlaces - n) o r)) (subst (λ y. isTag placeTag y ≡ false) e (ne-eqb t placeTag h)))
+
+module _ {named : Bool} {rec : List ℕ} {from n o : ℕ} {old new : List ℕ} {at n′ o′ t : ℕ} {m : Marks} (v : PlacesRead named rec from n o old new at n′ o′ m) (e : t ≡ headTag (drop at rec)) where
+  is-place : t ≡ placeTag → isTag placeTag (headTag (drop at rec)) ≡ true
   is-place h = subst (λ y. isTag placeTag y ≡ true) e (eq-eqb t placeTag h)
 
   some-end : (t ≡ placeTag → ⊥) → somePlaces named (mostPlaces - n) o (drop from rec) ≡ some (v .done, drop at rec)
   some-end h = going-end (isTag placeTag) (nextPlace named) withPlace (v .done) (mostPlaces - n′) o′ (drop at rec) (v .is) (subst (λ y. isTag placeTag y ≡ false) e (ne-eqb t placeTag h))
 
-  pub places-empty : (t ≡ placeTag → ⊥) → n′ ≡ n → places named (mostPlaces - n) o (drop from rec) ≡ none
-  unfolding places
-  places-empty h z = go (v .done) (omega (arith, v .number)) (some-end h)
-    where
-      go : (ps : List Place) → length ps ≡ 0 → somePlaces named (mostPlaces - n) o (drop from rec) ≡ some (ps, drop at rec) → only (mayBeBlock named) (somePlaces named (mostPlaces - n) o (drop from rec)) ≡ none
-      go [] k q = rw q
-      go (p ∷ ps) k q = absurd (omega arith)
+  -- where a place stands first, one was read
+  pub some-read : headTag (drop from rec) ≡ placeTag → (n′ ≡ n → at ≡ from) → (t ≡ placeTag → ⊥) → n′ ≡ n → ⊥
+  some-read f g h z = h (e ∙ ap (λ (i : ℕ). headTag (drop i rec)) (g z) ∙ f)
 
   pub places-end : (t ≡ placeTag → ⊥) → (n′ ≡ n → ⊥) → PlacesAre named rec from n o old new n′ o′ at
   unfolding places

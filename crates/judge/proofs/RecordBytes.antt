@@ -26,7 +26,7 @@ use Rattle.rules.proofs.ValueBack.{and-both}
 use Rattle.rules.proofs.EncodeDecode.{IsRecord, record-is, record-at}
 use Rattle.rules.proofs.FieldLaws.{bytes-append}
 use Rattle.record_walk.specs.Fields.{fits}
-use Rattle.record_walk.specs.Fronts.{Read, andThen, made, tagOf, front}
+use Rattle.record_walk.specs.Fronts.{Read, andThen, made, headTag, front}
 use Rattle.record_walk.proofs.FrontLaws.{then-some, made-some, Small, small-behind, cut-is, front-is, front-field}
 use Rattle.record_walk.proofs.SeveralLaws.{goods, Wrote, several-is, several-all}
 use Rattle.judge_place.specs.Places.{isTag, pieces}
@@ -83,7 +83,7 @@ block-wrote s t w r r₁ r₂ k ps r′ et ew kr er g = (
   kr ∙ rw (et, ew, er, g .bytes),
 )
 
-next-is : (s : Before) (r : List ℕ) (b : Block) (r′ : List ℕ) → Small r → isTag blockTag (tagOf r) ≡ true → nextBlock s r ≡ some (b, r′) → (good s b ≡ true) × (r ≡ bytesOf (blockFields b) ++ r′)
+next-is : (s : Before) (r : List ℕ) (b : Block) (r′ : List ℕ) → Small r → isTag blockTag (headTag r) ≡ true → nextBlock s r ≡ some (b, r′) → (good s b ≡ true) × (r ≡ bytesOf (blockFields b) ++ r′)
 unfolding nextBlock
 next-is s r b r′ sm h e = then-some (front r) _ (b, r′) e (λ f r₁ c k. whole f r₁ c k)
   where
@@ -109,20 +109,20 @@ next-is s r b r′ sm h e = then-some (front r) _ (b, r′) e (λ f r₁ c k. wh
 abbrev ended : ℕ → Bool
 ended t = ltb t placeTag
 
-next-back : (s : Before) (b : Block) (rest : List ℕ) → good s b ≡ true → ended (tagOf rest) ≡ true → nextBlock s (bytesOf (blockFields b) ++ rest) ≡ some (b, rest)
+next-back : (s : Before) (b : Block) (rest : List ℕ) → good s b ≡ true → ended (headTag rest) ≡ true → nextBlock s (bytesOf (blockFields b) ++ rest) ≡ some (b, rest)
 unfolding nextBlock fits
 next-back s (block k ps) rest h t =
     rw (
       front-field blockTag (kindLetter k ∷ []) (bytesOf (many placeFields ps) ++ rest) refl,
       letter-kind k,
       places-back k (mostPlaces - s .places) (s .orders) ps rest (g-well s (block k ps) h)
-          (omega (arith, g-places s (block k ps) h)) (g-orders s (block k ps) h) (ltb-true (tagOf rest) placeTag t),
+          (omega (arith, g-places s (block k ps) h)) (g-orders s (block k ps) h) (ltb-true (headTag rest) placeTag t),
     )
 
-opens : (b : Block) (rest : List ℕ) → isTag blockTag (tagOf (bytesOf (blockFields b) ++ rest)) ≡ true
+opens : (b : Block) (rest : List ℕ) → isTag blockTag (headTag (bytesOf (blockFields b) ++ rest)) ≡ true
 opens (block k ps) rest = refl
 
-closes : (b : Block) (rest : List ℕ) → ended (tagOf (bytesOf (blockFields b) ++ rest)) ≡ true
+closes : (b : Block) (rest : List ℕ) → ended (headTag (bytesOf (blockFields b) ++ rest)) ≡ true
 closes (block k ps) rest = refl
 
 -- ---- the blocks
@@ -179,7 +179,7 @@ pub code-is : (r : List ℕ) (ws : List (List ℕ)) (r′ : List ℕ) → Small 
 unfolding fits
 code-is r ws r′ s e = pieces-is codeTag false isIdentifier (λ _. refl) first-name moreOfCode r ws r′ s e
 
-code-back : (ws : List (List ℕ)) (rest : List ℕ) → isNil ws || wfPieces isIdentifier moreOfCode ws ≡ true → isTag codeTag (tagOf rest) ≡ false
+code-back : (ws : List (List ℕ)) (rest : List ℕ) → isNil ws || wfPieces isIdentifier moreOfCode ws ≡ true → isTag codeTag (headTag rest) ≡ false
     → pieces codeTag false (suc moreOfCode) (bytesOf (map (λ w. field codeTag w) ws) ++ rest) ≡ some (ws, rest)
 unfolding fits
 code-back ws rest h n = pieces-back codeTag false isIdentifier (λ _. refl) first-name moreOfCode ws rest h n
@@ -220,7 +220,7 @@ record-read r c s e =
     let v = command-is x bs r r₁ n (w .0) (w .1) (several-is (isTag blockTag) nextBlock withBlock good blockFields next-is mostBlocks noneBefore r₁ bs [] s₁ z) in
     rw (← eq) (record-at r (command x bs) (v .well) (v .bytes)))))
 
-blocks-tag : (bs : List Block) → isTag codeTag (tagOf (bytesOf (many blockFields bs))) ≡ false
+blocks-tag : (bs : List Block) → isTag codeTag (headTag (bytesOf (many blockFields bs))) ≡ false
 blocks-tag [] = refl
 blocks-tag (block k ps ∷ bs) = refl
 

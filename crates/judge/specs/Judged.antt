@@ -5,7 +5,7 @@ use mathlib.Core.Bool.{Bool, true, _||_, not}
 use mathlib.Core.List.{List, [], _∷_, _++_, map}
 use mathlib.Core.Option.{none, some}
 use Prim.Native.Nat.{ℕ, _+_, _-_, _*_, _≤_}
-use lib.Dec.{ltb}
+use lib.Dec.{leb, ltb}
 use lib.ListN.{length, take, drop, set}
 use Rattle.laws.specs.Cases.{pick}
 use Rattle.rules.specs.Refusals.{ok, bad, notWellFormed, mostPlaces, mostArguments, mostOrders}
@@ -19,6 +19,8 @@ use Rattle.record_walk.specs.Runs.{bytesIn}
 use Rattle.record_walk.specs.Spans.{size, headFields, argumentsOf, placeSpans, blockHead, blockSpans, spansOf}
 use Rattle.judge_names.specs.Names.{allMarked}
 use Rattle.judge.specs.Blocks.{places, freshPlace, nextBlock, blocks}
+use Rattle.judge.specs.declared.Orders.{Orders}
+use Rattle.judge.specs.declared.Orders.the-variants.{Are as OrdersAre, TooMany}
 use Rattle.judge.specs.declared.Next.{Next}
 use Rattle.judge.specs.declared.Next.the-variants.{Is, Bad as NoNext}
 use Rattle.judge.specs.declared.Places.{Places}
@@ -45,6 +47,12 @@ abbrev pub toldAt : List ℕ → ℕ → ℕ → ℕ → ℕ → List ℕ
 toldAt row p a b c =
     let i = perPlace * p in
     pick (ltb i (length row)) (set (set (set row i a) (i + 1) b) (i + 2) c) row
+
+-- ---- the orders
+
+-- so many, or more than there may be
+abbrev pub ordersOf : ℕ → Orders
+ordersOf n = pick (leb n mostOrders) (OrdersAre n) TooMany
 
 -- ---- one place
 

@@ -7,9 +7,9 @@ ghost use Rattle.rules.specs.Refusals.{mostPlaces, mostArguments, mostOrders};
 ghost use Rattle.rules.specs.Commands.{Place};
 ghost use Rattle.rules.specs.Records.{blockTag, placeTag};
 ghost use Rattle.rules.specs.Answers.{Counts};
-ghost use Rattle.record_walk.specs.Fronts.{tagOf};
+ghost use Rattle.record_walk.specs.Fronts.{headTag};
 ghost use Rattle.judge.specs.Blocks.{isKind, counted};
-ghost use Rattle.judge.specs.Judged.{perPlace, mostTold, toldAt, Stand, IsNext, IsPlaces, IsBlock, IsBlocks, Judges};
+ghost use Rattle.judge.specs.Judged.{perPlace, mostTold, toldAt, ordersOf, Stand, IsNext, IsPlaces, IsBlock, IsBlocks, Judges};
 
 // The numbers that are told of a place: its number of arguments, where its value begins, where it ends.
 pub const PER_PLACE: usize = 3;
@@ -42,6 +42,12 @@ pub enum Judged {
     Bad,
 }
 
+// The orders of places: how many, or more than there may be.
+pub enum Orders {
+    Are(u32),
+    TooMany,
+}
+
 // The next place of a block: its number of arguments, where its value begins and where it ends, and the key of its name; or no such place.
 enum Next {
     Is {
@@ -55,7 +61,7 @@ enum Next {
 
 // The place that stands at a position, in a block whose places begin at `from`: in a named block its name is new, those before it being marked.
 fn judge_next(rec: &[u8], from: usize, at: usize, named: bool, known: marks::Marks) -> Next
-    requires { ⌜ (tagOf (drop at (now rec)) ≡ placeTag) × ((ps : List Place) × Stand named (now rec) from at known ps) ⌝ }
+    requires { ⌜ (headTag (drop at (now rec)) ≡ placeTag) × ((ps : List Place) × Stand named (now rec) from at known ps) ⌝ }
     ensures { λ r. ⌜ IsNext named (now (rec .entry)) from at known r ⌝ }
 {
     let judge_place::OnePlace::Is {
@@ -102,15 +108,19 @@ fn tell_span(row: &mut [u16], place: usize, number: u32, value: usize, next: usi
     }
 }
 
-// The orders with one place more; an omitted place counts one.
-fn times(total: u32, number: u32) -> u32
+// The orders with one place more, an omitted place counting one, or too many.
+fn times(total: u32, number: u32) -> Orders
     requires { ⌜ (total ≤ mostOrders) × (number ≤ mostArguments) ⌝ }
-    ensures { λ r. ⌜ r ≡ total * counted number ⌝ }
+    ensures { λ r. ⌜ r ≡ ordersOf (total * counted number) ⌝ }
 {
     if 1 < number {
-        return total * number;
+        let product = total * number;
+        if rules::MOST_ORDERS < product as u64 {
+            return Orders::TooMany;
+        }
+        return Orders::Are(product);
     }
-    total
+    Orders::Are(total)
 }
 
 // The places of a block, from behind its field on: no name twice, at least one, at most 32 with those before, and no more than 65,535 orders.
@@ -125,11 +135,14 @@ fn judge_places(
     requires { ⌜ (from ≤ length (now rec)) × (length (now rec) ≤ mostTold) × (before ≤ mostPlaces) × (orders ≤ mostOrders) × (length (now row) % perPlace ≡ 0) ⌝ }
     ensures { λ r. ⌜ IsPlaces named (now (rec .entry)) from before orders (now (row .entry)) (now (row .exit)) r ⌝ }
 {
+    if record_walk::head_tag(rec, from) != record_walk::PLACE {
+        return Places::Bad;
+    }
     let mut at = from;
     let mut places = before;
     let mut total = orders;
     let mut marks = marks::none();
-    while record_walk::tag_at(rec, at) == record_walk::PLACE {
+    while record_walk::head_tag(rec, at) == record_walk::PLACE {
         if places == rules::MOST_PLACES {
             return Places::Bad;
         }
@@ -142,17 +155,14 @@ fn judge_places(
         else {
             return Places::Bad;
         };
-        total = times(total, number);
-        if rules::MOST_ORDERS < total as u64 {
+        let Orders::Are(product) = times(total, number) else {
             return Places::Bad;
-        }
+        };
+        total = product;
         tell_span(row, places, number, value, next);
         places += 1;
         at = next;
         marks = marks::add_if(named, marks, key);
-    }
-    if places == before {
-        return Places::Bad;
     }
     Places::Are {
         number: places,
@@ -170,7 +180,7 @@ fn is_kind(kind: u8) -> bool
 
 // The block that stands at a position: its field, and its places from behind the field on.
 fn judge_block(rec: &[u8], at: usize, before: usize, orders: u32, row: &mut [u16]) -> Places
-    requires { ⌜ (tagOf (drop at (now rec)) ≡ blockTag) × (length (now rec) ≤ mostTold) × (before ≤ mostPlaces) × (orders ≤ mostOrders) × (length (now row) % perPlace ≡ 0) ⌝ }
+    requires { ⌜ (headTag (drop at (now rec)) ≡ blockTag) × (length (now rec) ≤ mostTold) × (before ≤ mostPlaces) × (orders ≤ mostOrders) × (length (now row) % perPlace ≡ 0) ⌝ }
     ensures { λ r. ⌜ IsBlock (now (rec .entry)) at before orders (now (row .entry)) (now (row .exit)) r ⌝ }
 {
     let record_walk::Found::Field {
@@ -197,7 +207,7 @@ fn judge_blocks(rec: &[u8], from: usize, row: &mut [u16]) -> Judged
     let mut left = rules::MOST_BLOCKS;
     let mut places = 0usize;
     let mut total = 1u32;
-    while record_walk::tag_at(rec, at) == record_walk::BLOCK {
+    while record_walk::head_tag(rec, at) == record_walk::BLOCK {
         if left == 0 {
             return Judged::Bad;
         }

@@ -15,7 +15,7 @@ use Rattle.rules.specs.Records.{Field, field, fieldBytes, bytesOf}
 use Rattle.rules.specs.WellFormed.{short, wfPieces}
 use Rattle.rules.proofs.ValueBack.{and-both}
 use Rattle.record_walk.specs.Fields.{fits, wordLength}
-use Rattle.record_walk.specs.Fronts.{andThen, tagOf, front}
+use Rattle.record_walk.specs.Fronts.{andThen, headTag, front}
 use Rattle.record_walk.proofs.FrontLaws.{then-some, only-some, Small, cut-is, front-is, front-field}
 use Rattle.rules.proofs.FieldLaws.{many-map}
 use Rattle.record_walk.proofs.SeveralLaws.{goods, several-is, several-all}
@@ -47,7 +47,7 @@ module _ (t : ℕ) (names : Bool) (g : List ℕ → Bool) (words : (n : ℕ) →
 
   -- ---- one piece
 
-  piece-is : (index : Bool) (r w r′ : List ℕ) → Small r → isTag t (tagOf r) ≡ true → piece index r ≡ some (w, r′) → (good index w ≡ true) × (r ≡ bytesOf (fieldOf w) ++ r′)
+  piece-is : (index : Bool) (r w r′ : List ℕ) → Small r → isTag t (headTag r) ≡ true → piece index r ≡ some (w, r′) → (good index w ≡ true) × (r ≡ bytesOf (fieldOf w) ++ r′)
   unfolding piece
   piece-is index r w r′ s h e =
       only-some (mayBePiece index) (andThen (front r) (λ f r₁. some (content f, r₁))) w r′ e
@@ -69,7 +69,7 @@ module _ (t : ℕ) (names : Bool) (g : List ℕ → Bool) (words : (n : ℕ) →
   piece-back index w rest h _ =
       rw (append-nil w, front-field t w rest (and-r (mayBePiece index w) (fits t (length w)) h), and-l (mayBePiece index w) (fits t (length w)) h)
 
-  opens : (w rest : List ℕ) → isTag t (tagOf (bytesOf (fieldOf w) ++ rest)) ≡ true
+  opens : (w rest : List ℕ) → isTag t (headTag (bytesOf (fieldOf w) ++ rest)) ≡ true
   opens w rest = eq-eqb t t refl
 
   -- ---- lengths of words
@@ -127,7 +127,7 @@ module _ (t : ℕ) (names : Bool) (g : List ℕ → Bool) (words : (n : ℕ) →
       let w = several-is (isTag t) piece (nextPiece names) good fieldOf piece-is (suc most) false r ws r′ s e in
       (pieces-well most ws (w .few) (w .well), w .bytes ∙ rw (many-map (λ x. field t x) ws))
 
-  pub pieces-back : (most : ℕ) (ws : List (List ℕ)) (rest : List ℕ) → isNil ws || wfPieces g most ws ≡ true → isTag t (tagOf rest) ≡ false
+  pub pieces-back : (most : ℕ) (ws : List (List ℕ)) (rest : List ℕ) → isNil ws || wfPieces g most ws ≡ true → isTag t (headTag rest) ≡ false
       → pieces t names (suc most) (bytesOf (map (λ w. field t w) ws) ++ rest) ≡ some (ws, rest)
   pieces-back most ws rest h n =
       let k = pieces-good most ws h in

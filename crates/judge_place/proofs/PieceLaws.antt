@@ -11,7 +11,7 @@ use Rattle.laws.specs.Lists.{all, allAt}
 use Rattle.rules.specs.Characters.{isDigit}
 use Rattle.rules.specs.Units.{isIdentifier}
 use Rattle.rules.specs.Commands.{isIndexNumber}
-use Rattle.record_walk.specs.Fronts.{tagOf, front, before, several}
+use Rattle.record_walk.specs.Fronts.{headTag, front, before, several}
 use Rattle.record_walk.specs.Runs.{bytesIn}
 use Rattle.record_walk.proofs.WalkLaws.{IsField}
 use Rattle.record_walk.proofs.SeveralLaws.{before-nil, going-end, going-full, going-bad, going-more}
@@ -72,8 +72,8 @@ pub pieces-none : (t : ℕ) (names : Bool) (most : ℕ) (rec : List ℕ) (from :
 pieces-none t names most rec from h =
     record { done = []; is = before-nil (pieces t names most (drop from rec)); inside = h; count = omega arith }
 
-module _ {t most from at left x : ℕ} {names index : Bool} {rec : List ℕ} (v : PiecesRead t names most rec from at left index) (e : x ≡ tagOf (drop at rec)) where
-  same-tag : x ≡ t → isTag t (tagOf (drop at rec)) ≡ true
+module _ {t most from at left x : ℕ} {names index : Bool} {rec : List ℕ} (v : PiecesRead t names most rec from at left index) (e : x ≡ headTag (drop at rec)) where
+  same-tag : x ≡ t → isTag t (headTag (drop at rec)) ≡ true
   same-tag h = subst (λ y. isTag t y ≡ true) e (eq-eqb x t h)
 
   pub pieces-end : (x ≡ t → ⊥) → PiecesAre t names most rec from (most - left) at

@@ -18,7 +18,7 @@ use Rattle.rules.proofs.UnitBack.{base-back}
 use Rattle.rules.proofs.DecodeEncode.{place-value}
 use Rattle.rules.proofs.FieldLaws.{bytes-append}
 use Rattle.record_walk.specs.Fields.{fits}
-use Rattle.record_walk.specs.Fronts.{andThen, made, tagOf, front}
+use Rattle.record_walk.specs.Fronts.{andThen, made, headTag, front}
 use Rattle.record_walk.proofs.FrontLaws.{then-some, only-some, made-some, Small, small-behind, cut-is, front-is, front-field}
 use Rattle.record_walk.proofs.RunLaws.{low-tag}
 use Rattle.judge_value.specs.Elements.{value}
@@ -43,7 +43,7 @@ names-is : (r : List ℕ) (ws : List (List ℕ)) (r′ : List ℕ) → Small r �
 unfolding fits mayBePiece
 names-is r ws r′ s e = pieces-is nameTag true isPiece (λ _. refl) (λ _. refl) moreOfName r ws r′ s e
 
-names-back : (ws : List (List ℕ)) (rest : List ℕ) → isNil ws || wfPieces isPiece moreOfName ws ≡ true → isTag nameTag (tagOf rest) ≡ false
+names-back : (ws : List (List ℕ)) (rest : List ℕ) → isNil ws || wfPieces isPiece moreOfName ws ≡ true → isTag nameTag (headTag rest) ≡ false
     → pieces nameTag true (suc moreOfName) (bytesOf (map (λ w. field nameTag w) ws) ++ rest) ≡ some (ws, rest)
 unfolding fits mayBePiece
 names-back ws rest h n = pieces-back nameTag true isPiece (λ _. refl) (λ _. refl) moreOfName ws rest h n
@@ -71,7 +71,7 @@ place-names true b (w ∷ nm) v h =
     (and-r p (not (isNil v)) h1, and-l p (not (isNil v)) h1)
 place-names false b nm v h = let n : isNil nm ≡ true = and-l (isNil nm) (wfValue b v) h in (n, rw n)
 
-behind-back : (named : Bool) (b : Base) (nm : Name) (v : List Element) (rest : List ℕ) → wfPlace named (place b nm v) ≡ true → isTag nameTag (tagOf rest) ≡ false
+behind-back : (named : Bool) (b : Base) (nm : Name) (v : List Element) (rest : List ℕ) → wfPlace named (place b nm v) ≡ true → isTag nameTag (headTag rest) ≡ false
     → behindName named (bytesOf (map (λ w. field nameTag w) nm) ++ rest) ≡ some (nm, rest)
 behind-back true b nm v rest h n = names-back nm rest (place-names true b nm v h .1) n
 behind-back false b [] v rest h n = refl
@@ -105,20 +105,20 @@ parts-is named b r p r′ s e =
       bytes = wn .1 ∙ rw (wv .1, er) (sym (part-bytes nm v r′));
     })))
 
-value-tag : (v : List Element) (rest : List ℕ) → tagOf rest < nameTag → isTag nameTag (tagOf (bytesOf (many elementFields v) ++ rest)) ≡ false
-value-tag [] rest h = ne-eqb (tagOf rest) nameTag (λ e. omega arith)
+value-tag : (v : List Element) (rest : List ℕ) → headTag rest < nameTag → isTag nameTag (headTag (bytesOf (many elementFields v) ++ rest)) ≡ false
+value-tag [] rest h = ne-eqb (headTag rest) nameTag (λ e. omega arith)
 value-tag (single l u ∷ v) rest h = refl
 value-tag (range l r lo up inc ∷ v) rest h = refl
 
-parts-back : (named : Bool) (b : Base) (nm : List (List ℕ)) (v : List Element) (rest : List ℕ) → wfPlace named (place b nm v) ≡ true → tagOf rest < nameTag
+parts-back : (named : Bool) (b : Base) (nm : List (List ℕ)) (v : List Element) (rest : List ℕ) → wfPlace named (place b nm v) ≡ true → headTag rest < nameTag
     → parts named b (bytesOf (partFields nm v) ++ rest) ≡ some (place b nm v, rest)
 unfolding parts
 parts-back named b nm v rest h t =
-    let five : isElement (tagOf rest) ≡ false = rw (ne-eqb (tagOf rest) singleTag (λ e. omega arith), ne-eqb (tagOf rest) rangeTag (λ e. omega arith)) in
+    let five : isElement (headTag rest) ≡ false = rw (ne-eqb (headTag rest) singleTag (λ e. omega arith), ne-eqb (headTag rest) rangeTag (λ e. omega arith)) in
     rw (
       part-bytes nm v rest,
       behind-back named b nm v (bytesOf (many elementFields v) ++ rest) h (value-tag v rest t),
-      value-back b v rest (place-value named b nm v h) five (low-tag numeralTag stringTag (tagOf rest) (omega arith)),
+      value-back b v rest (place-value named b nm v h) five (low-tag numeralTag stringTag (headTag rest) (omega arith)),
       place-names named b nm v h .0,
     )
 
@@ -135,7 +135,7 @@ place-wrote named b t w r r₁ r₂ p r′ et ew kr er g =
     let bytes : r ≡ bytesOf (placeFields (place b (g .nm) (g .v))) ++ r′ = kr ∙ rw (et, ew, er, g .bytes) in
     (subst (λ (x : Place). wfPlace named x ≡ true) (sym (g .made-of)) (g .well), bytes ∙ ap (λ (x : Place). bytesOf (placeFields x) ++ r′) (sym (g .made-of)))
 
-pub place-is : (named : Bool) (r : List ℕ) (p : Place) (r′ : List ℕ) → Small r → isTag placeTag (tagOf r) ≡ true → onePlace named r ≡ some (p, r′)
+pub place-is : (named : Bool) (r : List ℕ) (p : Place) (r′ : List ℕ) → Small r → isTag placeTag (headTag r) ≡ true → onePlace named r ≡ some (p, r′)
     → (wfPlace named p ≡ true) × (r ≡ bytesOf (placeFields p) ++ r′)
 unfolding onePlace
 place-is named r p r′ s h e =
@@ -153,7 +153,7 @@ place-is named r p r′ s h e =
         let s₂ : Small r₂ = subst Small er (small-behind (fieldBytes (field t w)) r₁ (subst Small kr s)) in
         place-wrote named b t w r r₁ r₂ p r′ et (letter-back w b o) kr er (parts-is named b r₂ p r′ s₂ q))))
 
-pub place-back : (named : Bool) (p : Place) (rest : List ℕ) → wfPlace named p ≡ true → tagOf rest < nameTag → onePlace named (bytesOf (placeFields p) ++ rest) ≡ some (p, rest)
+pub place-back : (named : Bool) (p : Place) (rest : List ℕ) → wfPlace named p ≡ true → headTag rest < nameTag → onePlace named (bytesOf (placeFields p) ++ rest) ≡ some (p, rest)
 unfolding onePlace fits
 place-back named (place b nm v) rest h t =
     rw (front-field placeTag (letter b ∷ []) (bytesOf (partFields nm v) ++ rest) refl, base-back b) (parts-back named b nm v rest h t)

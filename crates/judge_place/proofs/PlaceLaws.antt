@@ -19,7 +19,7 @@ use Rattle.rules.specs.Records.{placeTag, nameTag, field, bytesOf, many, elemen
 use Rattle.rules.proofs.Counts.{terms-pos}
 use Rattle.rules.proofs.FieldLaws.{bytes-append}
 use Rattle.record_walk.specs.Fields.{fits}
-use Rattle.record_walk.specs.Fronts.{tagOf, front}
+use Rattle.record_walk.specs.Fronts.{headTag, front}
 use Rattle.record_walk.specs.Runs.{bytesIn}
 use Rattle.record_walk.specs.Spans.{size}
 use Rattle.record_walk.proofs.FrontLaws.{Small, small-drop}
@@ -150,14 +150,14 @@ base-no c h =
     (λ y3. byBool (eqb c (byte "B")) (λ y. absurd (false≢true (sym (rw (y1, y2, y3, y) at h))))
     (λ y4. byBool (eqb c (byte "K")) (λ y. absurd (false≢true (sym (rw (y1, y2, y3, y4, y) at h)))) (λ y. rw (y1, y2, y3, y4, y))))))
 
-pub place-inside : (rec : List ℕ) (at : ℕ) → tagOf (drop at rec) ≡ placeTag → at ≤ length rec
+pub place-inside : (rec : List ℕ) (at : ℕ) → headTag (drop at rec) ≡ placeTag → at ≤ length rec
 place-inside rec at h = omega (arith, tag-inside rec at (omega arith))
 
 pub place-gone : (named : Bool) (r : List ℕ) → front r ≡ none → onePlace named r ≡ none
 unfolding onePlace
 place-gone named r e = rw e
 
-module _ {rec : List ℕ} {at t s j : ℕ} (f : IsField rec at t s j) (three : tagOf (drop at rec) ≡ placeTag) where
+module _ {rec : List ℕ} {at t s j : ℕ} (f : IsField rec at t s j) (three : headTag (drop at rec) ≡ placeTag) where
   one-byte : j - s ≡ 1
   unfolding fits
   one-byte = eqb-true (j - s) 1 (rw (f .tag ∙ three) at (f .fit))

@@ -4,7 +4,7 @@ ghost use mathlib.Core.Bool.{true, false};
 ghost use Prim.Native.Nat.{_≤_};
 ghost use lib.ListN.{length, drop};
 ghost use Rattle.rules.specs.Records.{placeTag};
-ghost use Rattle.record_walk.specs.Fronts.{tagOf};
+ghost use Rattle.record_walk.specs.Fronts.{headTag};
 ghost use Rattle.judge_place.specs.Places.{mayBePiece, isBase, kindAgrees};
 ghost use Rattle.judge_place.specs.Judging.{IsPieces, IsName, IsParts, IsPlace};
 
@@ -51,7 +51,7 @@ pub fn judge_pieces(rec: &[u8], from: usize, tag: u8, most: usize, names: bool) 
     let mut at = from;
     let mut left = most;
     let mut index = false;
-    while record_walk::tag_at(rec, at) == tag {
+    while record_walk::head_tag(rec, at) == tag {
         if left == 0 {
             return Pieces::Bad;
         }
@@ -149,7 +149,7 @@ fn judge_parts(rec: &[u8], from: usize, base: u8, named: bool) -> OnePlace
 
 // The place that stands at a position.
 pub fn judge_place(rec: &[u8], at: usize, named: bool) -> OnePlace
-    requires { ⌜ tagOf (drop at (now rec)) ≡ placeTag ⌝ }
+    requires { ⌜ headTag (drop at (now rec)) ≡ placeTag ⌝ }
     ensures { λ r. ⌜ IsPlace named (now (rec .entry)) at r ⌝ }
 {
     let record_walk::Found::Field {

@@ -1,10 +1,9 @@
 -- A unit that was read from the front of bytes is written to the same bytes again, and a well-formed unit is read back from its field.
-use mathlib.Core.Path.{_≡_, refl, sym, ap, ap₂, _∙_, subst}
+use mathlib.Core.Path.{_≡_, refl, sym, ap, _∙_, subst}
 use mathlib.Core.Bool.{Bool, true, false, _&&_, not, false≢true}
-use mathlib.Core.List.{List, [], _∷_, _++_, map, append-nil}
-use mathlib.Core.Option.{Option, none, some}
-use Prim.Native.Nat.{ℕ, zero, suc, _+_, _*_, _/_, _%_, _^_, _≤_, _<_}
-use native.Mathlib.Nat.{add-zero}
+use mathlib.Core.List.{List, [], _∷_, _++_, append-nil}
+use mathlib.Core.Option.{none, some}
+use Prim.Native.Nat.{ℕ, zero, suc, _+_, _*_, _/_, _%_, _^_, _<_}
 use native.Mathlib.Omega.{arith}
 use borrow.Author.Tests.{eqb-true, le-leb}
 use lib.Dec.{leb, eqb}
@@ -15,13 +14,13 @@ use Rattle.laws.specs.Lists.{all, isNil}
 use Rattle.rules.specs.Refusals.{mostWord, mostString}
 use Rattle.rules.specs.Characters.{isPermitted}
 use Rattle.rules.specs.Tokens.{wordChars}
-use Rattle.rules.specs.Units.{Radix, Base, plain, keys, letter, radixLetter, baseOf, Unit, num, keyed, identifier, symbolic, text, isHeldKey, runOf, numeral, isIdentifier, isSymbolicName}
-use Rattle.rules.specs.Records.{Field, field, isUnit, fourBytes, unitField, many, fieldBytes, bytesOf, num4, numOf, unitOf}
+use Rattle.rules.specs.Units.{Base, plain, keys, letter, baseOf, Unit, num, keyed, identifier, symbolic, text, isHeldKey, runOf, numeral, isIdentifier, isSymbolicName}
+use Rattle.rules.specs.Records.{Field, field, isUnit, fourBytes, unitField, fieldBytes, bytesOf, num4, numOf, unitOf}
 use Rattle.rules.specs.WellFormed.{isNone, wfUnit}
 use Rattle.rules.proofs.UnitBack.{base-back}
 use Rattle.rules.proofs.DecodeEncode.{four, value-small}
 use Rattle.record_walk.specs.Fields.{fits, wordLength}
-use Rattle.record_walk.specs.Fronts.{andThen, only, made, tagOf, fitting, front}
+use Rattle.record_walk.specs.Fronts.{andThen, only, made, headTag, fitting, front}
 use Rattle.record_walk.proofs.FrontLaws.{then-some, only-some, made-some, Small, small-behind, small-front, cut-is, front-is, front-field, front-tag}
 use Rattle.judge_unit.specs.Units.{unitIn, unit}
 
@@ -87,7 +86,7 @@ field-unit b (text w) h = refl
 abbrev pub unitFields : Unit → List Field
 unitFields u = unitField u ∷ []
 
-pub unit-is : (b : Base) (r : List ℕ) (u : Unit) (r′ : List ℕ) → Small r → isUnit (tagOf r) ≡ true → unit b r ≡ some (u, r′) → (wfUnit b u ≡ true) × (r ≡ bytesOf (unitFields u) ++ r′)
+pub unit-is : (b : Base) (r : List ℕ) (u : Unit) (r′ : List ℕ) → Small r → isUnit (headTag r) ≡ true → unit b r ≡ some (u, r′) → (wfUnit b u ≡ true) × (r ≡ bytesOf (unitFields u) ++ r′)
 unfolding unit
 unit-is b r u r′ s _ e =
     only-some (wfUnit b) (andThen (front r) (λ f r₁. made (unitIn f) r₁)) u r′ e
@@ -143,7 +142,7 @@ unit-back b u rest h _ = rw append-nil (go (unitField u) (field-unit b u h) (uni
     go : (f : Field) → unitIn f ≡ some u → fitting f ≡ true → only (wfUnit b) (andThen (front (fieldBytes f ++ rest)) (λ g r₁. made (unitIn g) r₁)) ≡ some (u, rest)
     go (field t w) q k = rw (front-field t w rest k, q, h)
 
-pub unit-opens : (u : Unit) (rest : List ℕ) → isUnit (tagOf (bytesOf (unitFields u) ++ rest)) ≡ true
+pub unit-opens : (u : Unit) (rest : List ℕ) → isUnit (headTag (bytesOf (unitFields u) ++ rest)) ≡ true
 unit-opens (num r f v) rest = refl
 unit-opens (keyed w) rest = refl
 unit-opens (identifier w) rest = refl
@@ -160,12 +159,12 @@ has-tag t w u e =
     (λ y3. byBool (eqb t 10) (λ y. rw (eqb-true t 10 y))
     (λ y4. byBool (eqb t 11) (λ y. rw (eqb-true t 11 y)) (λ y. none≢some (rw (y1, y2, y3, y4, y) at e))))))
 
-pub unit-tag : (b : Base) (r : List ℕ) (u : Unit) (r′ : List ℕ) → unit b r ≡ some (u, r′) → isUnit (tagOf r) ≡ true
+pub unit-tag : (b : Base) (r : List ℕ) (u : Unit) (r′ : List ℕ) → unit b r ≡ some (u, r′) → isUnit (headTag r) ≡ true
 unfolding unit
 unit-tag b r u r′ e =
     only-some (wfUnit b) (andThen (front r) (λ f r₁. made (unitIn f) r₁)) u r′ e
     (λ h g. then-some (front r) (λ f r₁. made (unitIn f) r₁) (u, r′) g (λ f r₁ c m. go f r₁ c m))
   where
-    go : (f : Field) (r₁ : List ℕ) → front r ≡ some (f, r₁) → made (unitIn f) r₁ ≡ some (u, r′) → isUnit (tagOf r) ≡ true
+    go : (f : Field) (r₁ : List ℕ) → front r ≡ some (f, r₁) → made (unitIn f) r₁ ≡ some (u, r′) → isUnit (headTag r) ≡ true
     go (field t w) r₁ c m =
         made-some (unitOf t w) r₁ u r′ m (λ o q. subst (λ (n : ℕ). isUnit n ≡ true) (front-tag r t w r₁ c) (has-tag t w u o))

@@ -1,11 +1,11 @@
 -- The unit at the front is the field's that the walker found, where its content may stand; a decimal numeral's field is told by its first bytes.
-use mathlib.Core.Path.{_≡_, refl, sym, ap, _∙_, subst}
+use mathlib.Core.Path.{_≡_, refl, sym, _∙_, subst}
 use mathlib.Core.Bool.{Bool, true, false, _&&_, false≢true}
 use mathlib.Core.List.{List}
 use mathlib.Core.Option.{Option, none, some}
-use Prim.Native.Nat.{ℕ, zero, suc, _+_, _-_, _*_, _≤_, _<_}
+use Prim.Native.Nat.{ℕ, zero, suc, _+_, _-_, _≤_}
 use native.Mathlib.Omega.{arith}
-use borrow.Author.Tests.{eq-eqb, ne-eqb, le-leb, lt-leb, eqb-true, leb-true}
+use borrow.Author.Tests.{ne-eqb, eqb-true, leb-true}
 use lib.Dec.{leb, eqb}
 use lib.ListN.{length, getD, drop, take-append-drop}
 use native.Mathlib.Nat.{add-zero}
@@ -14,17 +14,17 @@ use Rattle.rules.specs.Refusals.{mostValue}
 use Rattle.rules.specs.Characters.{byte}
 use Rattle.rules.specs.Units.{rD, Base, Unit, baseAt}
 use Rattle.rules.specs.Records.{field, numeralTag, num4, unitOf}
-use Rattle.rules.specs.WellFormed.{wfUnit, okFraction}
+use Rattle.rules.specs.WellFormed.{okFraction}
 use Rattle.digits.specs.Digits.{plainLetter}
 use Rattle.record_walk.specs.declared.Found.the-variants.{Field}
 use Rattle.record_walk.specs.Fields.{fits, lengthAt}
-use Rattle.record_walk.specs.Fronts.{tagOf, front}
+use Rattle.record_walk.specs.Fronts.{front}
 use Rattle.record_walk.specs.Runs.{bytesIn}
 use Rattle.record_walk.proofs.FrontLaws.{Small, small-front, small-drop}
 use Rattle.record_walk.proofs.RunLaws.{byte-in, long-in}
 use Rattle.record_walk.proofs.WalkLaws.{IsField, finds, field-fits}
 use Rattle.judge_unit.specs.Units.{unit, mayStand, unitStands, numeralStands, decimalAt, UnitTo, IsUnit}
-use Rattle.judge_unit.proofs.StandLaws.{numeral-is, other-is}
+use Rattle.judge_unit.proofs.StandLaws.{numeral-is}
 
 -- ---- a field that was found
 
@@ -95,9 +95,9 @@ module _ (b : ℕ) (rec : List ℕ) (at : ℕ) (sm : Small rec) (inside : at ≤
   pub decimal-found : {r : Bool} → r ≡ decimalAt rec at → r ≡ true → (b ≡ byte "K" → ⊥) → UnitTo (baseAt b) rec at (at + 9)
   unfolding decimalAt fits
   decimal-found e h nk =
-      let all : leb 9 (length rec - at) && (eqb (num4 rec at) 117442116 && okFraction rD (getD rec (at + 4) 0)) ≡ true = sym e ∙ h in
-      let rest : eqb (num4 rec at) 117442116 && okFraction rD (getD rec (at + 4) 0) ≡ true = and-r (leb 9 (length rec - at)) (eqb (num4 rec at) 117442116 && okFraction rD (getD rec (at + 4) 0)) all in
-      let room : 9 ≤ length rec - at = leb-true _ _ (and-l (leb 9 (length rec - at)) (eqb (num4 rec at) 117442116 && okFraction rD (getD rec (at + 4) 0)) all) in
+      let all : leb (at + 9) (length rec) && (eqb (num4 rec at) 117442116 && okFraction rD (getD rec (at + 4) 0)) ≡ true = sym e ∙ h in
+      let rest : eqb (num4 rec at) 117442116 && okFraction rD (getD rec (at + 4) 0) ≡ true = and-r (leb (at + 9) (length rec)) (eqb (num4 rec at) 117442116 && okFraction rD (getD rec (at + 4) 0)) all in
+      let room : at + 9 ≤ length rec = leb-true _ _ (and-l (leb (at + 9) (length rec)) (eqb (num4 rec at) 117442116 && okFraction rD (getD rec (at + 4) 0)) all) in
       let head : num4 rec at ≡ 117442116 = eqb-true _ _ (and-l (eqb (num4 rec at) 117442116) (okFraction rD (getD rec (at + 4) 0)) rest) in
       let few : okFraction rD (getD rec (at + 4) 0) ≡ true = and-r (eqb (num4 rec at) 117442116) (okFraction rD (getD rec (at + 4) 0)) rest in
       let one : 1 + at ≡ at + 1 = omega arith in

@@ -3,7 +3,7 @@ use mathlib.Core.Path.{_≡_}
 use mathlib.Core.Bool.{Bool, false, _&&_}
 use mathlib.Core.List.{List}
 use mathlib.Core.Option.{Option, none, some}
-use Prim.Native.Nat.{ℕ, zero, suc, _+_, _-_, _≤_, _<_}
+use Prim.Native.Nat.{ℕ, zero, suc, _+_, _≤_, _<_}
 use lib.Dec.{leb, eqb}
 use lib.ListN.{length, getD, drop}
 use Rattle.laws.specs.Cases.{pick}
@@ -53,7 +53,7 @@ abbrev pub decimalHead : ℕ
 decimalHead = 117442116
 
 unfoldable pub decimalAt : List ℕ → ℕ → Bool
-decimalAt rec at = leb 9 (length rec - at) && (eqb (num4 rec at) decimalHead && okFraction rD (getD rec (at + 4) 0))
+decimalAt rec at = leb (at + 9) (length rec) && (eqb (num4 rec at) decimalHead && okFraction rD (getD rec (at + 4) 0))
 
 -- ---- what the answer says
 

@@ -256,7 +256,7 @@ fn is_decimal(rec: &[u8], at: usize) -> bool
     requires { ⌜ at ≤ length (now rec) ⌝ }
     ensures { λ r. ⌜ r ≡ decimalAt (now (rec .entry)) at ⌝ }
 {
-    if rec.len() - at < record_walk::NUMERAL_FIELD {
+    if rec.len() < at + record_walk::NUMERAL_FIELD {
         return false;
     }
     if record_walk::number_at(rec, at) != DECIMAL {

@@ -1,23 +1,23 @@
 -- An element that was read from the front of bytes is written to the same bytes again, and a well-formed element is read back from its fields.
 use mathlib.Core.Path.{_≡_, refl, sym, ap, ap₂, _∙_, subst}
-use mathlib.Core.Bool.{Bool, true, false, cond, _&&_, _||_, false≢true}
-use mathlib.Core.List.{List, [], _∷_, _++_, map, append-nil}
-use mathlib.Core.Option.{Option, none, some}
-use Prim.Native.Nat.{ℕ, zero, suc, _+_, _*_, _-_, _/_, _%_, _^_, _≤_, _<_}
+use mathlib.Core.Bool.{Bool, true, false, cond, _&&_, false≢true}
+use mathlib.Core.List.{List, [], _∷_, _++_, map}
+use mathlib.Core.Option.{none, some}
+use Prim.Native.Nat.{ℕ, _+_, _-_, _/_, _%_, _≤_}
 use native.Mathlib.Omega.{arith}
-use borrow.Author.Tests.{eqb-true, eq-eqb, le-leb, leb-true}
+use borrow.Author.Tests.{eqb-true, eq-eqb, le-leb}
 use lib.Dec.{leb, eqb}
-use lib.ListN.{length, getD, drop, length-append}
-use Rattle.laws.specs.Cases.{byBool, some-inj, none≢some, cond-some, and-l, and-r, or-cases}
+use lib.ListN.{length, getD, length-append}
+use Rattle.laws.specs.Cases.{byBool, none≢some, cond-some, and-l, and-r}
 use Rattle.laws.specs.Lists.{all, isNil, all-append}
 use Rattle.rules.specs.Units.{Radix, Base, plain, Unit, num, keyed, identifier, symbolic, text, allowed}
-use Rattle.rules.specs.Commands.{Element, single, range, leading, lastUnit}
+use Rattle.rules.specs.Commands.{Element, single, range, leading}
 use Rattle.rules.specs.Records.{Field, field, isUnit, isElement, fourBytes, unitField, elementFields, fieldBytes, bytesOf, num4, Ends, ends, empty, consEnds, lastSplit, singleOf, rangeOf, elementOf}
-use Rattle.rules.specs.WellFormed.{wfUnit, okFraction, wfRange, wfElement}
+use Rattle.rules.specs.WellFormed.{wfUnit, wfElement}
 use Rattle.rules.proofs.DecodeEncode.{four, value-small, last-split}
 use Rattle.rules.proofs.ValueBack.{ok-lead, ok-last, ok-range}
 use Rattle.record_walk.specs.Fields.{fits}
-use Rattle.record_walk.specs.Fronts.{Read, andThen, only, made, tagOf, front}
+use Rattle.record_walk.specs.Fronts.{andThen, made, headTag, front}
 use Rattle.record_walk.proofs.FrontLaws.{then-some, only-some, made-some, Small, small-behind, small-front, cut-is, front-is, front-field}
 use Rattle.judge_value.specs.Elements.{units, elementIn, inOrder, element}
 use Rattle.judge_unit.proofs.UnitBytes.{listed-is, four-bytes}
@@ -130,7 +130,7 @@ element-made b t w r₁ us e r′ s h g o y =
     ranged n (ends l (symbolic x)) q c = none≢some c
     ranged n (ends l (text x)) q c = none≢some c
 
-pub element-is : (b : Base) (r : List ℕ) (e : Element) (r′ : List ℕ) → Small r → isElement (tagOf r) ≡ true → element b r ≡ some (e, r′) → ElementWrote b r e r′
+pub element-is : (b : Base) (r : List ℕ) (e : Element) (r′ : List ℕ) → Small r → isElement (headTag r) ≡ true → element b r ≡ some (e, r′) → ElementWrote b r e r′
 unfolding element
 element-is b r e r′ s h q =
     only-some inOrder (andThen (front r) (λ f r₁. andThen (units b r₁) (λ us r₂. made (elementIn f us) r₂))) e r′ q
@@ -154,12 +154,12 @@ snoc-some : (l : List Unit) (u : Unit) → isNil (l ++ (u ∷ [])) ≡ false
 snoc-some [] u = refl
 snoc-some (i ∷ l) u = refl
 
-units-whole : (b : Base) (l : List Unit) (u : Unit) (rest : List ℕ) → all (wfUnit b) l ≡ true → wfUnit b u ≡ true → length l ≤ 3 → isUnit (tagOf rest) ≡ false
+units-whole : (b : Base) (l : List Unit) (u : Unit) (rest : List ℕ) → all (wfUnit b) l ≡ true → wfUnit b u ≡ true → length l ≤ 3 → isUnit (headTag rest) ≡ false
     → units b (bytesOf (map unitField (l ++ (u ∷ []))) ++ rest) ≡ some (l ++ (u ∷ []), rest)
 units-whole b l u rest hl hu n t =
     units-back b (l ++ (u ∷ [])) rest (all-append (wfUnit b) l (u ∷ []) hl (rw hu)) (omega (arith, length-append l (u ∷ []))) (snoc-some l u) t
 
-pub element-back : (b : Base) (e : Element) (rest : List ℕ) → wfElement b (length (leading e)) e ≡ true → length (leading e) ≤ 3 → isUnit (tagOf rest) ≡ false
+pub element-back : (b : Base) (e : Element) (rest : List ℕ) → wfElement b (length (leading e)) e ≡ true → length (leading e) ≤ 3 → isUnit (headTag rest) ≡ false
     → element b (bytesOf (elementFields e) ++ rest) ≡ some (e, rest)
 unfolding element fits
 element-back b (single l u) rest h n t =

@@ -1,23 +1,23 @@
 -- An element from the front: its field is the walker's, its units are those that stand behind it, and the rules make the element of both.
 use mathlib.Core.Path.{_≡_, refl, sym, ap, _∙_, subst}
-use mathlib.Core.Bool.{Bool, true, false, _&&_}
-use mathlib.Core.List.{List, [], _∷_, _++_}
+use mathlib.Core.Bool.{true, false, _&&_}
+use mathlib.Core.List.{List, [], _++_}
 use mathlib.Core.Option.{none, some}
-use Prim.Native.Nat.{ℕ, zero, suc, _+_, _-_, _*_, _/_, _%_, _^_, _≤_, _<_}
+use Prim.Native.Nat.{ℕ, _+_, _-_, _/_, _≤_, _<_}
 use native.Mathlib.Nat.{add-zero}
 use native.Mathlib.Omega.{arith}
 use borrow.Author.Tests.{eqb-true, ne-eqb}
 use lib.Dec.{leb, eqb}
-use lib.ListN.{length, getD, take, drop, length-drop}
+use lib.ListN.{length, getD, drop, length-drop}
 use lib.Seq.{getD-drop}
 use Rattle.laws.specs.Cases.{Always, pick-if, byBool, or-cases}
 use Rattle.rules.specs.Units.{Radix, Base, Unit, num, keyed, identifier, symbolic, text}
-use Rattle.rules.specs.Commands.{Element, single, range, leading, terms}
-use Rattle.rules.specs.Records.{singleTag, rangeTag, numeralTag, isElement, bytesOf, ends, lastSplit, num4, rangeOf, elementOf}
+use Rattle.rules.specs.Commands.{single, range, terms}
+use Rattle.rules.specs.Records.{singleTag, rangeTag, numeralTag, isElement, bytesOf, ends, num4, rangeOf, elementOf}
 use Rattle.rules.specs.WellFormed.{wfUnit}
 use Rattle.rules.proofs.DecodeEncode.{four, value-small, last-split}
 use Rattle.record_walk.specs.Fields.{fits}
-use Rattle.record_walk.specs.Fronts.{Read, andThen, only, made, tagOf, front}
+use Rattle.record_walk.specs.Fronts.{only, made, headTag, front}
 use Rattle.record_walk.specs.Runs.{bytesIn}
 use Rattle.record_walk.proofs.FrontLaws.{Small, small-drop}
 use Rattle.record_walk.proofs.RunLaws.{number-in}
@@ -125,9 +125,9 @@ terms-is rec s o m e = subst (IsTerms rec s o) (sym e) (terms-there rec s o)
 -- ---- the element
 
 -- where an element's tag stands, the record goes on
-pub element-inside : (rec : List ℕ) (at : ℕ) → isElement (tagOf (drop at rec)) ≡ true → at < length rec
+pub element-inside : (rec : List ℕ) (at : ℕ) → isElement (headTag (drop at rec)) ≡ true → at < length rec
 element-inside rec at h =
-    let t : ℕ = tagOf (drop at rec) in
+    let t : ℕ = headTag (drop at rec) in
     tag-inside rec at
     (or-cases (eqb t singleTag) (eqb t rangeTag) h (λ y. omega (arith, eqb-true t singleTag y)) (λ y. omega (arith, eqb-true t rangeTag y)))
 
@@ -153,7 +153,7 @@ module _ {rec : List ℕ} {at t s k : ℕ} (f : IsField rec at t s k) where
   range-long e = let n : k - s ≡ 8 = eqb-true (k - s) 8 (rw e at (f .fit)) in omega (arith, f .ends)
 
   -- an element's content tells which of the two it is
-  module _ (h : isElement (tagOf (drop at rec)) ≡ true) where
+  module _ (h : isElement (headTag (drop at rec)) ≡ true) where
     pub range-tag : (s ≡ k → ⊥) → t ≡ rangeTag
     range-tag n = eqb-true t rangeTag (rw (← f .tag, ne-eqb t singleTag (λ e. n (single-long e))) at h)
 

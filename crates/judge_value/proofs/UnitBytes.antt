@@ -1,8 +1,8 @@
 -- Units that were read from the front of bytes are written to the same bytes again, and well-formed units are read back from their fields.
 use mathlib.Core.Path.{_≡_, refl, sym, ap, _∙_}
-use mathlib.Core.Bool.{Bool, true, false, _&&_, not}
+use mathlib.Core.Bool.{true, false, _&&_, not}
 use mathlib.Core.List.{List, [], _∷_, _++_, map}
-use mathlib.Core.Option.{Option, some}
+use mathlib.Core.Option.{some}
 use Prim.Native.Nat.{ℕ, _≤_}
 use lib.ListN.{length}
 use Rattle.laws.specs.Lists.{all, isNil}
@@ -10,7 +10,7 @@ use Rattle.rules.specs.Units.{Base, Unit}
 use Rattle.rules.specs.Records.{isUnit, unitField, bytesOf}
 use Rattle.rules.specs.WellFormed.{wfUnit}
 use Rattle.rules.proofs.FieldLaws.{many-map}
-use Rattle.record_walk.specs.Fronts.{tagOf, only}
+use Rattle.record_walk.specs.Fronts.{headTag}
 use Rattle.record_walk.proofs.FrontLaws.{only-some, Small}
 use Rattle.record_walk.proofs.SeveralLaws.{goods, several-is, several-all}
 use Rattle.judge_unit.specs.Units.{unit}
@@ -33,7 +33,7 @@ units-is b r us r′ s e =
     let w = several-is isUnit unit sameBase wfUnit unitFields unit-is 4 b r us r′ s k in
     record { well = sym (goods-all b us) ∙ w .well; few = w .few; bytes = w .bytes ∙ rw (many-map unitField us) })
 
-pub units-back : (b : Base) (us : List Unit) (rest : List ℕ) → all (wfUnit b) us ≡ true → length us ≤ 4 → isNil us ≡ false → isUnit (tagOf rest) ≡ false
+pub units-back : (b : Base) (us : List Unit) (rest : List ℕ) → all (wfUnit b) us ≡ true → length us ≤ 4 → isNil us ≡ false → isUnit (headTag rest) ≡ false
     → units b (bytesOf (map unitField us) ++ rest) ≡ some (us, rest)
 units-back b us rest h n l t =
     let back : fewUnits b (bytesOf (map unitField us) ++ rest) ≡ some (us, rest) = rw (← many-map unitField us)

@@ -1,16 +1,16 @@
 -- Units from the front: the first must stand, and each turn of the loop reads one more, while a unit's tag stands there.
 use mathlib.Core.Path.{_≡_, refl, sym, ap, _∙_}
-use mathlib.Core.Bool.{Bool, true, false, not}
+use mathlib.Core.Bool.{Bool, true, false}
 use mathlib.Core.List.{List, [], _∷_, _++_}
 use mathlib.Core.Option.{none, some}
-use Prim.Native.Nat.{ℕ, zero, suc, _+_, _-_, _≤_, _<_}
+use Prim.Native.Nat.{ℕ, suc, _+_, _-_, _≤_, _<_}
 use native.Mathlib.Omega.{arith}
 use lib.ListN.{length, drop, length-append}
 use Rattle.laws.specs.Cases.{byBool}
 use Rattle.laws.specs.Lists.{isNil}
 use Rattle.rules.specs.Units.{Base, Unit}
 use Rattle.rules.specs.Records.{isUnit}
-use Rattle.record_walk.specs.Fronts.{tagOf, before, several}
+use Rattle.record_walk.specs.Fronts.{headTag, before, several}
 use Rattle.record_walk.proofs.SeveralLaws.{before-nil, going-end, going-full, going-bad, going-more}
 use Rattle.judge_unit.specs.Units.{unit, UnitTo}
 use Rattle.judge_unit.proofs.UnitBytes.{unit-tag}
@@ -48,11 +48,11 @@ module _ {b : Base} {rec : List ℕ} {from : ℕ} where
 
 pub units-none : (b : Base) (r : List ℕ) → unit b r ≡ none → units b r ≡ none
 units-none b r e =
-    byBool (isUnit (tagOf r)) (λ y. rw (going-bad isUnit unit sameBase [] 3 b r (before-nil (fewUnits b r)) y e))
+    byBool (isUnit (headTag r)) (λ y. rw (going-bad isUnit unit sameBase [] 3 b r (before-nil (fewUnits b r)) y e))
     (λ y. rw (going-end isUnit unit sameBase [] 4 b r (before-nil (fewUnits b r)) y))
 
-module _ {b : Base} {rec : List ℕ} {from at n l t : ℕ} {y : Bool} (v : UnitsRead b rec from at n l) (e : t ≡ tagOf (drop at rec)) (q : y ≡ isUnit t) where
-  tag-is : {z : Bool} → y ≡ z → isUnit (tagOf (drop at rec)) ≡ z
+module _ {b : Base} {rec : List ℕ} {from at n l t : ℕ} {y : Bool} (v : UnitsRead b rec from at n l) (e : t ≡ headTag (drop at rec)) (q : y ≡ isUnit t) where
+  tag-is : {z : Bool} → y ≡ z → isUnit (headTag (drop at rec)) ≡ z
   tag-is h = ap isUnit (sym e) ∙ sym q ∙ h
 
   pub units-end : y ≡ false → UnitsAre b rec from n l at

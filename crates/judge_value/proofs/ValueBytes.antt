@@ -1,9 +1,9 @@
 -- A value that was read from the front of bytes is well formed and written to the same bytes again; and a well-formed value is read back from its fields.
-use mathlib.Core.Path.{_≡_, refl, sym, ap, _∙_, subst}
+use mathlib.Core.Path.{_≡_, refl, sym, ap, subst}
 use mathlib.Core.Bool.{Bool, true, false, _&&_, _||_, not}
 use mathlib.Core.List.{List, [], _∷_, _++_, map}
-use mathlib.Core.Option.{Option, some}
-use Prim.Native.Nat.{ℕ, zero, suc, _+_, _≤_, _<_}
+use mathlib.Core.Option.{some}
+use Prim.Native.Nat.{ℕ, suc, _+_, _≤_}
 use native.Mathlib.Omega.{arith}
 use borrow.Author.Tests.{not-true, eqb-true, eq-eqb, ne-eqb, le-leb, leb-true}
 use lib.Dec.{leb, eqb}
@@ -15,11 +15,11 @@ use Rattle.rules.specs.Commands.{Element, single, range, leading, terms, sum, v
 use Rattle.rules.specs.Records.{isUnit, isElement, elementFields, many, bytesOf}
 use Rattle.rules.specs.WellFormed.{wfElement, wfValue}
 use Rattle.rules.proofs.ValueBack.{v-lead, v-all, v-few, v-count, ok-length, and-both}
-use Rattle.record_walk.specs.Fronts.{Read, only, tagOf}
+use Rattle.record_walk.specs.Fronts.{headTag}
 use Rattle.record_walk.proofs.FrontLaws.{only-some, Small}
-use Rattle.record_walk.proofs.SeveralLaws.{goods, Wrote, several-is, several-all}
+use Rattle.record_walk.proofs.SeveralLaws.{goods, several-is, several-all}
 use Rattle.judge_value.specs.Elements.{element, Before, joins, joining, nextElement, behind, noneBefore, value}
-use Rattle.judge_value.proofs.ElementBytes.{ElementWrote, element-is, element-back}
+use Rattle.judge_value.proofs.ElementBytes.{element-is, element-back}
 
 -- an element that is well formed and joins those before it
 abbrev good : Before → Element → Bool
@@ -28,7 +28,7 @@ good s e = wfElement (s .base) (length (leading e)) e && leb (length (leading e)
 abbrev allGood : Before → List Element → Bool
 allGood s es = goods isElement nextElement behind good elementFields s es
 
-next-is : (s : Before) (r : List ℕ) (e : Element) (r′ : List ℕ) → Small r → isElement (tagOf r) ≡ true → nextElement s r ≡ some (e, r′)
+next-is : (s : Before) (r : List ℕ) (e : Element) (r′ : List ℕ) → Small r → isElement (headTag r) ≡ true → nextElement s r ≡ some (e, r′)
     → (good s e ≡ true) × (r ≡ bytesOf (elementFields e) ++ r′)
 unfolding nextElement
 next-is s r e r′ sm h q =
@@ -52,19 +52,19 @@ good-of s e h k j = rw (h, k, j)
 abbrev ended : ℕ → Bool
 ended t = not (isUnit t)
 
-next-back : (s : Before) (e : Element) (rest : List ℕ) → good s e ≡ true → ended (tagOf rest) ≡ true → nextElement s (bytesOf (elementFields e) ++ rest) ≡ some (e, rest)
+next-back : (s : Before) (e : Element) (rest : List ℕ) → good s e ≡ true → ended (headTag rest) ≡ true → nextElement s (bytesOf (elementFields e) ++ rest) ≡ some (e, rest)
 unfolding nextElement
 next-back s e rest h t =
     rw (
-      element-back (s .base) e rest (g-well s e h) (leb-true (length (leading e)) 3 (g-few s e h)) (not-true (isUnit (tagOf rest)) t),
+      element-back (s .base) e rest (g-well s e h) (leb-true (length (leading e)) 3 (g-few s e h)) (not-true (isUnit (headTag rest)) t),
       g-joins s e h,
     )
 
-opens : (e : Element) (rest : List ℕ) → isElement (tagOf (bytesOf (elementFields e) ++ rest)) ≡ true
+opens : (e : Element) (rest : List ℕ) → isElement (headTag (bytesOf (elementFields e) ++ rest)) ≡ true
 opens (single l u) rest = refl
 opens (range l r lo up inc) rest = refl
 
-closes : (e : Element) (rest : List ℕ) → ended (tagOf (bytesOf (elementFields e) ++ rest)) ≡ true
+closes : (e : Element) (rest : List ℕ) → ended (headTag (bytesOf (elementFields e) ++ rest)) ≡ true
 closes (single l u) rest = refl
 closes (range l r lo up inc) rest = refl
 
@@ -140,7 +140,7 @@ value-is b r v r′ s e =
     let w = several-is isElement nextElement behind good elementFields next-is 64 (noneBefore b) r v r′ s e in
     (value-well b v (w .few) (w .well), w .bytes)
 
-pub value-back : (b : Base) (v : List Element) (rest : List ℕ) → wfValue b v ≡ true → isElement (tagOf rest) ≡ false → isUnit (tagOf rest) ≡ false
+pub value-back : (b : Base) (v : List Element) (rest : List ℕ) → wfValue b v ≡ true → isElement (headTag rest) ≡ false → isUnit (headTag rest) ≡ false
     → value b (bytesOf (many elementFields v) ++ rest) ≡ some (v, rest)
 value-back b v rest h t n =
     let g = value-good b v h in

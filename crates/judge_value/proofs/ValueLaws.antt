@@ -1,20 +1,20 @@
 -- A value from the front: each turn of the loop over elements reads one more that joins those before.
-use mathlib.Core.Path.{_≡_, refl, sym, ap, ap₂, _∙_, subst}
+use mathlib.Core.Path.{_≡_, refl, sym, ap, _∙_}
 use mathlib.Core.Bool.{Bool, true, false, _||_}
 use mathlib.Core.List.{List, [], _∷_, _++_, map}
-use mathlib.Core.Option.{Option, none, some}
-use Prim.Native.Nat.{ℕ, zero, suc, _+_, _-_, _≤_, _<_}
+use mathlib.Core.Option.{none, some}
+use Prim.Native.Nat.{ℕ, suc, _+_, _-_, _≤_}
 use native.Mathlib.Omega.{arith}
 use borrow.Author.Tests.{leb-true}
 use lib.Dec.{leb, eqb}
 use lib.ListN.{length, drop}
 use Rattle.laws.specs.Cases.{and-l}
 use Rattle.rules.specs.Units.{Base}
-use Rattle.rules.specs.Commands.{Element, leading, terms, sum}
+use Rattle.rules.specs.Commands.{Element, terms, sum}
 use Rattle.rules.specs.Records.{isElement}
-use Rattle.record_walk.specs.Fronts.{Read, only, tagOf, before, several}
+use Rattle.record_walk.specs.Fronts.{headTag, before, several}
 use Rattle.record_walk.proofs.SeveralLaws.{before-nil, going-end, going-full, going-bad, going-more}
-use Rattle.judge_value.specs.Elements.{element, Before, joins, joining, nextElement, behind, noneBefore, value}
+use Rattle.judge_value.specs.Elements.{element, Before, joins, joining, nextElement, behind, value}
 use Rattle.judge_value.specs.Judging.{ElementIs, ValueIs}
 
 sum-snoc : (es : List Element) (e : Element) → sum (map terms (es ++ (e ∷ []))) ≡ sum (map terms es) + terms e
@@ -35,8 +35,8 @@ pub record ValueRead (b : Base) (rec : List ℕ) (from at left k a : ℕ) : Type
 pub value-none : (b : Base) (rec : List ℕ) (from : ℕ) → from ≤ length rec → ValueRead b rec from from 64 0 0
 value-none b rec from h = record { done = []; is = before-nil (value b (drop from rec)); inside = h; counted = refl; few = omega arith }
 
-module _ {b : Base} {rec : List ℕ} {from at left k a t : ℕ} {y : Bool} (v : ValueRead b rec from at left k a) (e : t ≡ tagOf (drop at rec)) (q : y ≡ isElement t) where
-  tag-is : {z : Bool} → y ≡ z → isElement (tagOf (drop at rec)) ≡ z
+module _ {b : Base} {rec : List ℕ} {from at left k a t : ℕ} {y : Bool} (v : ValueRead b rec from at left k a) (e : t ≡ headTag (drop at rec)) (q : y ≡ isElement t) where
+  tag-is : {z : Bool} → y ≡ z → isElement (headTag (drop at rec)) ≡ z
   tag-is h = ap isElement (sym e) ∙ sym q ∙ h
 
   pub value-end : y ≡ false → ValueIs b rec from a at

@@ -5,7 +5,7 @@ ghost use Prim.Native.Nat.{_+_, _≤_, _<_};
 ghost use lib.ListN.{length, getD, drop};
 ghost use Rattle.rules.specs.Units.{baseAt};
 ghost use Rattle.rules.specs.Records.{isElement, numeralTag};
-ghost use Rattle.record_walk.specs.Fronts.{tagOf};
+ghost use Rattle.record_walk.specs.Fronts.{headTag};
 ghost use Rattle.judge_value.specs.Elements.{joins, lowerAt, moreOf, termsOf};
 ghost use Rattle.judge_value.specs.Judging.{IsUnits, IsElement, IsValue};
 
@@ -64,7 +64,7 @@ fn judge_units(rec: &[u8], from: usize, base: u8) -> Units
         return Units::Bad;
     }
     let mut count = 1;
-    while record_walk::is_unit(record_walk::tag_at(rec, at)) {
+    while record_walk::is_unit(record_walk::head_tag(rec, at)) {
         if count == MOST_UNITS {
             return Units::Bad;
         }
@@ -126,7 +126,7 @@ fn range_terms(rec: &[u8], ends: usize, unit: usize) -> Terms
 
 // The element that stands at a position: its field, and its units from behind the field on. A field without content is a single element's.
 fn judge_element(rec: &[u8], at: usize, base: u8) -> OneElement
-    requires { ⌜ isElement (tagOf (drop at (now rec))) ≡ true ⌝ }
+    requires { ⌜ isElement (headTag (drop at (now rec))) ≡ true ⌝ }
     ensures { λ r. ⌜ IsElement (baseAt base) (now (rec .entry)) at r ⌝ }
 {
     let record_walk::Found::Field {
@@ -180,7 +180,7 @@ pub fn judge_value(rec: &[u8], from: usize, base: u8) -> Arguments
     let mut left = rules::MOST_ELEMENTS;
     let mut units = 0;
     let mut arguments = 0;
-    while record_walk::is_element(record_walk::tag_at(rec, at)) {
+    while record_walk::is_element(record_walk::head_tag(rec, at)) {
         if left == 0 {
             return Arguments::Bad;
         }

@@ -1,20 +1,19 @@
 -- What is cut off the front of bytes is written to the same bytes again, and back.
-use mathlib.Core.Path.{_≡_, refl, sym, ap, ap₂, _∙_, subst}
-use mathlib.Core.Bool.{Bool, true, false, false≢true}
-use mathlib.Core.List.{List, [], _∷_, _++_, append-assoc}
+use mathlib.Core.Path.{_≡_, refl, sym, ap, _∙_, subst}
+use mathlib.Core.Bool.{Bool, true, false}
+use mathlib.Core.List.{List, [], _∷_, _++_}
 use mathlib.Core.Option.{Option, none, some}
-use mathlib.Core.Logic.{_⊎_, inl, inr}
-use Prim.Native.Nat.{ℕ, zero, suc, _+_, _-_, _*_, _/_, _%_, _≤_, _<_}
-use native.Mathlib.Nat.{div-add-mod', add-zero, not-suc-le-zero, add-sub-cancel-left}
+use Prim.Native.Nat.{ℕ, _+_, _-_, _*_, _/_, _%_, _≤_, _<_}
+use native.Mathlib.Nat.{div-add-mod'}
 use native.Mathlib.Omega.{arith}
-use borrow.Author.Tests.{le-leb, lt-leb, lt-ltb, le-ltb, leb-false, ltb-false, leb-true, ltb-true}
+use borrow.Author.Tests.{lt-ltb, le-ltb, leb-false, ltb-false, leb-true, ltb-true}
 use lib.Dec.{leb, ltb}
-use lib.ListN.{length, getD, take, drop, List·getD-append, List·getD-eq-default, length-append, length-drop, length-take, take-append-drop, drop-of-length-le}
-use lib.Seq.{take-all, getD-drop, drop-drop, drop-cons, take-at, drop-at, length-take-le, getD-append-add}
-use Rattle.laws.specs.Cases.{pick, pick-if, byBool, some-inj, none≢some}
-use Rattle.rules.specs.Records.{Field, field, fieldBytes, bytesOf}
+use lib.ListN.{length, getD, take, drop, List·getD-append, List·getD-eq-default, length-append, length-drop, take-append-drop}
+use lib.Seq.{getD-drop, drop-drop, take-at, drop-at, length-take-le, getD-append-add}
+use Rattle.laws.specs.Cases.{pick, byBool, some-inj, none≢some}
+use Rattle.rules.specs.Records.{Field, field, fieldBytes}
 use Rattle.record_walk.specs.Fields.{fits}
-use Rattle.record_walk.specs.Fronts.{Read, andThen, only, made, tagOf, sizeOf, bodyOf, cut, fitting, front}
+use Rattle.record_walk.specs.Fronts.{Read, andThen, only, made, tagOf, headTag, sizeOf, bodyOf, cut, fitting, front}
 
 -- ---- taking readings apart
 
@@ -124,13 +123,36 @@ pub front-field : (t : ℕ) (w rest : List ℕ) → fits t (length w) ≡ true �
 unfolding front
 front-field t w rest h = rw (cut-field t w rest, h)
 
--- the tag of the field at the front
-pub front-tag : (r : List ℕ) (t : ℕ) (w r′ : List ℕ) → front r ≡ some (field t w, r′) → t ≡ tagOf r
+-- ---- the tag at the front
+
+pub head-none : (r : List ℕ) → length r < 3 → headTag r ≡ 0
+head-none [] h = refl
+head-none (t ∷ []) h = refl
+head-none (t ∷ a ∷ []) h = refl
+head-none (t ∷ a ∷ b ∷ r) h = absurd (omega arith)
+
+pub head-some : (r : List ℕ) → 3 ≤ length r → headTag r ≡ tagOf r
+head-some [] h = absurd (omega arith)
+head-some (t ∷ []) h = absurd (omega arith)
+head-some (t ∷ a ∷ []) h = absurd (omega arith)
+head-some (t ∷ a ∷ b ∷ r) h = refl
+
+-- where a tag stands, what stands before a content has room
+pub head-room : (r : List ℕ) → 1 ≤ headTag r → 3 ≤ length r
+head-room [] h = absurd (omega arith)
+head-room (t ∷ []) h = absurd (omega arith)
+head-room (t ∷ a ∷ []) h = absurd (omega arith)
+head-room (t ∷ a ∷ b ∷ r) h = omega arith
+
+pub front-tag : (r : List ℕ) (t : ℕ) (w r′ : List ℕ) → front r ≡ some (field t w, r′) → t ≡ headTag r
 unfolding cut
 front-tag r t w r′ e =
     front-is r t w r′ e
     (λ _ c. byBool (ltb (length r) (sizeOf r)) (λ y. none≢some (rw y at c))
-    (λ y. let q : _≡_ {A = Field × List ℕ} (field (tagOf r) (bodyOf r), drop (sizeOf r) r) (field t w, r′) = some-inj (rw y at c) in sym (ap (λ (x : Field × List ℕ). tagIn (x .0)) q)))
+    (λ y.
+    let q : _≡_ {A = Field × List ℕ} (field (tagOf r) (bodyOf r), drop (sizeOf r) r) (field t w, r′) = some-inj (rw y at c) in
+    let room : sizeOf r ≤ length r = ltb-false (length r) (sizeOf r) y in
+    sym (ap (λ (x : Field × List ℕ). tagIn (x .0)) q) ∙ sym (head-some r (omega arith))))
   where
     tagIn : Field → ℕ
     tagIn (field n x) = n

@@ -1,15 +1,15 @@
 -- As many as stand there: the turns of a loop that reads them; and, where each is written to the bytes that it was read from, so are all, and back.
 use mathlib.Core.Path.{_≡_, refl, sym, ap, _∙_, subst}
-use mathlib.Core.Bool.{Bool, true, false, _&&_, false≢true}
-use mathlib.Core.List.{List, [], _∷_, _++_, map, append-assoc, append-nil}
-use mathlib.Core.Option.{Option, none, some}
-use Prim.Native.Nat.{ℕ, zero, suc, _≤_, _<_}
+use mathlib.Core.Bool.{Bool, true, false, _&&_}
+use mathlib.Core.List.{List, [], _∷_, _++_, append-assoc, append-nil}
+use mathlib.Core.Option.{none, some}
+use Prim.Native.Nat.{ℕ, zero, suc, _≤_}
 use native.Mathlib.Nat.{le-of-suc-le-suc, not-suc-le-zero}
 use native.Mathlib.Omega.{arith}
 use lib.ListN.{length}
 use Rattle.laws.specs.Cases.{byBool, and-l, and-r, some-inj, none≢some}
 use Rattle.rules.specs.Records.{Field, bytesOf, many}
-use Rattle.record_walk.specs.Fronts.{Read, andThen, tagOf, before, several}
+use Rattle.record_walk.specs.Fronts.{Read, headTag, before, several}
 use Rattle.rules.proofs.FieldLaws.{bytes-append, bytes-cons}
 use Rattle.record_walk.proofs.FrontLaws.{then-some, Small, small-behind}
 
@@ -32,32 +32,32 @@ before-some {A} xs (some x) y r h k =
 module _ {S A : Type 0} (starts : ℕ → Bool) (one : S → List ℕ → Read A) (after : S → A → S) where
   -- ---- the turns of a loop: `done` was read, and the rest is read from here
 
-  several-stop : (n : ℕ) (s : S) (r : List ℕ) → starts (tagOf r) ≡ false → several starts one after n s r ≡ some ([], r)
+  several-stop : (n : ℕ) (s : S) (r : List ℕ) → starts (headTag r) ≡ false → several starts one after n s r ≡ some ([], r)
   unfolding several
   several-stop zero s r h = rw h
   several-stop (suc n) s r h = rw h
 
-  several-more : (n : ℕ) (s : S) (r : List ℕ) (a : A) (r′ : List ℕ) → starts (tagOf r) ≡ true → one s r ≡ some (a, r′)
+  several-more : (n : ℕ) (s : S) (r : List ℕ) (a : A) (r′ : List ℕ) → starts (headTag r) ≡ true → one s r ≡ some (a, r′)
       → several starts one after (suc n) s r ≡ before (a ∷ []) (several starts one after n (after s a) r′)
   unfolding several
   several-more n s r a r′ h e = rw (h, e)
 
   pub going-end : {whole : Read (List A)} (done : List A) (n : ℕ) (s : S) (r : List ℕ) → whole ≡ before done (several starts one after n s r)
-      → starts (tagOf r) ≡ false → whole ≡ some (done, r)
+      → starts (headTag r) ≡ false → whole ≡ some (done, r)
   going-end done n s r q h = q ∙ rw (several-stop n s r h, append-nil done)
 
   pub going-full : {whole : Read (List A)} (done : List A) (s : S) (r : List ℕ) → whole ≡ before done (several starts one after zero s r)
-      → starts (tagOf r) ≡ true → whole ≡ none
+      → starts (headTag r) ≡ true → whole ≡ none
   unfolding several
   going-full done s r q h = q ∙ rw h
 
   pub going-bad : {whole : Read (List A)} (done : List A) (n : ℕ) (s : S) (r : List ℕ) → whole ≡ before done (several starts one after (suc n) s r)
-      → starts (tagOf r) ≡ true → one s r ≡ none → whole ≡ none
+      → starts (headTag r) ≡ true → one s r ≡ none → whole ≡ none
   unfolding several
   going-bad done n s r q h e = q ∙ rw (h, e)
 
   pub going-more : {whole : Read (List A)} (done : List A) (n : ℕ) (s : S) (r : List ℕ) (a : A) (r′ : List ℕ) → whole ≡ before done (several starts one after (suc n) s r)
-      → starts (tagOf r) ≡ true → one s r ≡ some (a, r′) → whole ≡ before (done ++ (a ∷ [])) (several starts one after n (after s a) r′)
+      → starts (headTag r) ≡ true → one s r ≡ some (a, r′) → whole ≡ before (done ++ (a ∷ [])) (several starts one after n (after s a) r′)
   going-more done n s r a r′ q h e = q ∙ rw (several-more n s r a r′ h e) (before-before done (a ∷ []) (several starts one after n (after s a) r′))
 
   -- ---- all are written to the bytes that they were read from, and back
@@ -87,13 +87,13 @@ module _ {S A : Type 0} (starts : ℕ → Bool) (one : S → List ℕ → Read A
           bytes = q ∙ rw (v .bytes, bytes-append (fields a) (many fields as′)) (sym (append-assoc (bytesOf (fields a)) (bytesOf (many fields as′)) r′));
         }
 
-    pub several-is : ((s : S) (r : List ℕ) (a : A) (r′ : List ℕ) → Small r → starts (tagOf r) ≡ true → one s r ≡ some (a, r′) → (good s a ≡ true) × (r ≡ bytesOf (fields a) ++ r′))
+    pub several-is : ((s : S) (r : List ℕ) (a : A) (r′ : List ℕ) → Small r → starts (headTag r) ≡ true → one s r ≡ some (a, r′) → (good s a ≡ true) × (r ≡ bytesOf (fields a) ++ r′))
         → (n : ℕ) (s : S) (r : List ℕ) (as′ : List A) (r′ : List ℕ) → Small r → several starts one after n s r ≡ some (as′, r′) → Wrote n s r as′ r′
     unfolding several
     several-is each zero s r as′ r′ sm e =
-        byBool (starts (tagOf r)) (λ y. none≢some (rw y at e)) (λ y. wrote-none zero s r as′ r′ (sym (several-stop zero s r y) ∙ e))
+        byBool (starts (headTag r)) (λ y. none≢some (rw y at e)) (λ y. wrote-none zero s r as′ r′ (sym (several-stop zero s r y) ∙ e))
     several-is each (suc n) s r as′ r′ sm e =
-        byBool (starts (tagOf r))
+        byBool (starts (headTag r))
         (λ y. then-some (one s r) _ (as′, r′) (rw y at e)
         (λ a r₁ h g. before-some (a ∷ []) (several starts one after n (after s a) r₁) as′ r′ g
         (λ z k q.
@@ -104,15 +104,15 @@ module _ {S A : Type 0} (starts : ℕ → Bool) (one : S → List ℕ → Read A
 
     -- back: each is read where the tag behind it ends it, the next one's tag does so, and starts the next one
     module _ (ends : ℕ → Bool)
-        (reads : (s : S) (a : A) (rest : List ℕ) → good s a ≡ true → ends (tagOf rest) ≡ true → one s (bytesOf (fields a) ++ rest) ≡ some (a, rest))
-        (opens : (a : A) (rest : List ℕ) → starts (tagOf (bytesOf (fields a) ++ rest)) ≡ true)
-        (closes : (a : A) (rest : List ℕ) → ends (tagOf (bytesOf (fields a) ++ rest)) ≡ true) where
-      ended : (as′ : List A) (rest : List ℕ) → ends (tagOf rest) ≡ true → ends (tagOf (bytesOf (many fields as′) ++ rest)) ≡ true
+        (reads : (s : S) (a : A) (rest : List ℕ) → good s a ≡ true → ends (headTag rest) ≡ true → one s (bytesOf (fields a) ++ rest) ≡ some (a, rest))
+        (opens : (a : A) (rest : List ℕ) → starts (headTag (bytesOf (fields a) ++ rest)) ≡ true)
+        (closes : (a : A) (rest : List ℕ) → ends (headTag (bytesOf (fields a) ++ rest)) ≡ true) where
+      ended : (as′ : List A) (rest : List ℕ) → ends (headTag rest) ≡ true → ends (headTag (bytesOf (many fields as′) ++ rest)) ≡ true
       ended [] rest h = h
       ended (a ∷ as′) rest h = rw (bytes-cons fields a as′ rest) (closes a (bytesOf (many fields as′) ++ rest))
 
-      pub several-all : (as′ : List A) (n : ℕ) (s : S) (rest : List ℕ) → goods s as′ ≡ true → length as′ ≤ n → starts (tagOf rest) ≡ false
-          → ends (tagOf rest) ≡ true → several starts one after n s (bytesOf (many fields as′) ++ rest) ≡ some (as′, rest)
+      pub several-all : (as′ : List A) (n : ℕ) (s : S) (rest : List ℕ) → goods s as′ ≡ true → length as′ ≤ n → starts (headTag rest) ≡ false
+          → ends (headTag rest) ≡ true → several starts one after n s (bytesOf (many fields as′) ++ rest) ≡ some (as′, rest)
       several-all [] n s rest g h st en = several-stop n s rest st
       several-all (a ∷ as′) zero s rest g h st en = absurd (not-suc-le-zero h)
       several-all (a ∷ as′) (suc n) s rest g h st en =

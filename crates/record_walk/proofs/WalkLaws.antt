@@ -1,27 +1,27 @@
 -- The walker's field is the field at the front of what stands there: the three tests are those of `front`.
-use mathlib.Core.Path.{_≡_, refl, sym, subst}
+use mathlib.Core.Path.{_≡_, refl, sym, _∙_, subst}
 use mathlib.Core.Bool.{Bool, true, false}
 use mathlib.Core.List.{List, [], _∷_}
 use mathlib.Core.Option.{none, some}
 use denote.Enum.Declared
 use types.Run
 use Prim.Native.Nat.{ℕ, zero, suc, _+_, _-_, _*_, _≤_, _<_}
-use native.Mathlib.Nat.{add-zero, not-suc-le-zero}
+use native.Mathlib.Nat.{add-zero}
 use native.Mathlib.Omega.{arith}
-use borrow.Author.Tests.{lt-ltb, le-ltb, leb-false, ltb-false, leb-true, ltb-true}
-use lib.Dec.{leb, ltb}
-use lib.ListN.{length, getD, take, drop, length-drop, drop-of-length-le}
+use borrow.Author.Tests.{lt-ltb, le-ltb, ltb-false, ltb-true}
+use lib.Dec.{ltb}
+use lib.ListN.{length, getD, take, drop, length-drop}
 use lib.Seq.{take-all, getD-drop, drop-drop, length-take-le}
-use Rattle.laws.specs.Cases.{pick-if, byBool}
+use Rattle.laws.specs.Cases.{pick-if}
 use Rattle.laws.specs.Keys.{None, none-above}
 use Rattle.rules.specs.Records.{field, stringTag}
 use Rattle.record_walk.specs.declared.Found.{Found}
 use Rattle.record_walk.specs.declared.Found.the-variants.{Field, Nothing}
 use Rattle.record_walk.specs.Fields.{fits, lengthAt, fieldAt}
-use Rattle.record_walk.specs.Fronts.{tagOf, front}
+use Rattle.record_walk.specs.Fronts.{tagOf, headTag, front}
 use Rattle.record_walk.specs.Runs.{bytesIn}
 use Rattle.record_walk.proofs.Found as Found'
-use Rattle.record_walk.proofs.FrontLaws.{front-of, front-unfit, front-short}
+use Rattle.record_walk.proofs.FrontLaws.{head-some, head-room, front-of, front-unfit, front-short}
 
 -- a tag that is none of the match's keys
 pub no-tag : (t : ℕ) → None t stringTag → (t ≡ 0 → ⊥) → 12 ≤ t
@@ -53,7 +53,7 @@ module _ (rec : List ℕ) (at : ℕ) where
 
 -- a field of tag t that stands at `at`, its content from s to k
 pub record IsField (rec : List ℕ) (at t s k : ℕ) : Type 0 where
-  pub tag : t ≡ tagOf (drop at rec)
+  pub tag : t ≡ headTag (drop at rec)
   pub start : s ≡ at + 3
   pub ends : s ≤ k
   pub inside : k ≤ length rec
@@ -86,7 +86,7 @@ module _ (rec : List ℕ) (at : ℕ) where
       let size : at + 3 + n - (at + 3) ≡ n = omega arith in
       let behind : at + (3 + n) ≡ at + 3 + n = omega arith in
       record {
-        tag = sym tag-there;
+        tag = sym (head-some (drop at rec) (omega (arith, length-drop at rec)) ∙ tag-there);
         start = refl;
         ends = omega arith;
         inside = h;
@@ -124,6 +124,5 @@ module _ (rec : List ℕ) (at : ℕ) where
   part-there = take-all (length rec - at) (drop at rec) (simp length-drop (omega arith))
 
   -- where a tag stands, the record goes on
-  pub tag-inside : 1 ≤ tagOf (drop at rec) → at < length rec
-  tag-inside h =
-      byBool (leb (length rec) at) (λ y. absurd (not-suc-le-zero (rw (drop-of-length-le rec (leb-true (length rec) at y)) at h))) (λ y. leb-false (length rec) at y)
+  pub tag-inside : 1 ≤ headTag (drop at rec) → at < length rec
+  tag-inside h = omega (arith, head-room (drop at rec) h, length-drop at rec)

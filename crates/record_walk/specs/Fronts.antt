@@ -1,5 +1,5 @@
 -- Reading from the front of bytes: what was read, and the bytes behind it. One field; and as many of a kind as stand there, up to a limit.
-use mathlib.Core.Bool.{Bool, true, false}
+use mathlib.Core.Bool.{Bool}
 use mathlib.Core.List.{List, [], _∷_, _++_}
 use mathlib.Core.Option.{Option, none, some}
 use Prim.Native.Nat.{ℕ, zero, suc, _+_, _*_}
@@ -34,6 +34,13 @@ made (some a) r = some (a, r)
 abbrev pub tagOf : List ℕ → ℕ
 tagOf r = getD r 0 0
 
+-- the tag of a field that stands at the front, 0 where there is no room for what stands before a content
+abbrev pub headTag : List ℕ → ℕ
+headTag [] = 0
+headTag (t ∷ []) = 0
+headTag (t ∷ h ∷ []) = 0
+headTag (t ∷ h ∷ l ∷ r) = t
+
 -- the bytes of the field at the front
 abbrev pub sizeOf : List ℕ → ℕ
 sizeOf r = 3 + (getD r 1 0 * 256 + getD r 2 0)
@@ -60,6 +67,6 @@ before as′ (some x) = some (as′ ++ x .0, x .1)
 
 -- while the tag at the front starts another one, at most so many: each is read in a state, and what was read makes the next one's state
 unfoldable pub several : {S A : Type 0} → (ℕ → Bool) → (S → List ℕ → Read A) → (S → A → S) → ℕ → S → List ℕ → Read (List A)
-several starts one after zero s r = pick (starts (tagOf r)) none (some ([], r))
+several starts one after zero s r = pick (starts (headTag r)) none (some ([], r))
 several starts one after (suc n) s r =
-    pick (starts (tagOf r)) (andThen (one s r) (λ a r′. before (a ∷ []) (several starts one after n (after s a) r′))) (some ([], r))
+    pick (starts (headTag r)) (andThen (one s r) (λ a r′. before (a ∷ []) (several starts one after n (after s a) r′))) (some ([], r))

@@ -5,7 +5,7 @@ ghost use lib.ListN.{length, drop};
 ghost use Rattle.rules.specs.Characters.{between};
 ghost use Rattle.rules.specs.Records.{num4, isUnit, isElement};
 ghost use Rattle.record_walk.specs.Fields.{wordLength, fits, fieldAt};
-ghost use Rattle.record_walk.specs.Fronts.{tagOf};
+ghost use Rattle.record_walk.specs.Fronts.{tagOf, headTag};
 ghost use Rattle.record_walk.specs.Runs.{Whole, fieldSize, RunsTo, ElementTo};
 
 // The tags: of a code piece,
@@ -143,6 +143,17 @@ pub fn tag_at(rec: &[u8], at: usize) -> u8
         return rec[at];
     }
     0
+}
+
+// The tag of the field that stands there, 0 where there is no room for what stands before a content.
+pub fn head_tag(rec: &[u8], at: usize) -> u8
+    requires { ⌜ at ≤ length (now rec) ⌝ }
+    ensures { λ r. ⌜ r ≡ headTag (drop at (now (rec .entry))) ⌝ }
+{
+    if rec.len() < at + HEADER {
+        return 0;
+    }
+    rec[at]
 }
 
 // Whether a word may be so long.

@@ -18,17 +18,17 @@ abbrev μ-loop : tie.MeasureT-loop
 loop-holds : tie.Need-loop-holds Inv-loop μ-loop
 loop-holds c = blocks-none _ _ _ (c .before .before .pre .0)
 
-tag-at-requires : tie.Need-tag-at-requires Inv-loop μ-loop
-tag-at-requires c κs = search needs
+head-tag-requires : tie.Need-head-tag-requires Inv-loop μ-loop
+head-tag-requires c κs = search needs
 
 same-length : tie.Need-same-length Inv-loop μ-loop
 same-length c = search needs
 
 returns : tie.Need-returns Inv-loop μ-loop
-returns c = blocks-full (c .before .before .before .loop .inv) (c .before .before .tag-at .ensures) (c .before .if1 .taken) (c .if2 .taken)
+returns c = blocks-full (c .before .before .before .loop .inv) (c .before .before .head-tag .ensures) (c .before .if1 .taken) (c .if2 .taken)
 
 judge-block-requires : tie.Need-judge-block-requires Inv-loop μ-loop
-judge-block-requires c κs = let v = c .before .before .before .before .loop .inv in let p = c .before .before .before .before .before .before .before .pre in (sym (c .before .before .before .tag-at .ensures) ∙ c .before .before .if1 .taken, p .1, v .few, v .small, ap (λ n. n % 3) (v .long) ∙ p .2)
+judge-block-requires c κs = let v = c .before .before .before .before .loop .inv in let p = c .before .before .before .before .before .before .before .pre in (sym (c .before .before .before .head-tag .ensures) ∙ c .before .before .if1 .taken, p .1, v .few, v .small, ap (λ n. n % 3) (v .long) ∙ p .2)
 
 enum-known-number : tie.Need-enum-known-number Inv-loop μ-loop
 enum-known-number c = search needs
@@ -40,7 +40,7 @@ same-length-2 : tie.Need-same-length-2 Inv-loop μ-loop
 same-length-2 c = search needs
 
 returns-2 : tie.Need-returns-2 Inv-loop μ-loop
-returns-2 c = let l = c .before .before .before .before .before .before .before .before .before .loop in blocks-bad (l .inv) (c .before .before .before .before .before .before .before .before .tag-at .ensures) (l .left - 1) (c .before .before .before .before .before .before .before .if1 .taken) (omega arith) (subst (IsBlock (now (c .before .before .before .before .before .before .before .before .before .before .before .before .args .rec)) (l .at) (l .places) (l .total) (l .row) _) (c .enum-told .given .1) (c .before .before .before .before .judge-block .ensures))
+returns-2 c = let l = c .before .before .before .before .before .before .before .before .before .loop in blocks-bad (l .inv) (c .before .before .before .before .before .before .before .before .head-tag .ensures) (l .left - 1) (c .before .before .before .before .before .before .before .if1 .taken) (omega arith) (subst (IsBlock (now (c .before .before .before .before .before .before .before .before .before .before .before .before .args .rec)) (l .at) (l .places) (l .total) (l .row) _) (c .enum-told .given .1) (c .before .before .before .before .judge-block .ensures))
 
 sub-left : tie.Need-sub-left Inv-loop μ-loop
 sub-left c = search needs
@@ -49,19 +49,19 @@ loop-less : tie.Need-loop-less Inv-loop μ-loop
 loop-less c = search needs
 
 loop-again : tie.Need-loop-again Inv-loop μ-loop
-loop-again c = let l = c .before .before .before .before .before .before .before .before .before .before .loop in blocks-more (l .inv) (c .before .before .before .before .before .before .before .before .before .tag-at .ensures) (l .left - 1) (c .before .before .before .before .before .before .before .before .if1 .taken) (omega arith) (subst (IsBlock (now (c .before .before .before .before .before .before .before .before .before .before .before .before .before .args .rec)) (l .at) (l .places) (l .total) (l .row) _) (c .before .number .given .1) (c .before .before .before .before .before .judge-block .ensures))
+loop-again c = let l = c .before .before .before .before .before .before .before .before .before .before .loop in blocks-more (l .inv) (c .before .before .before .before .before .before .before .before .before .head-tag .ensures) (l .left - 1) (c .before .before .before .before .before .before .before .before .if1 .taken) (omega arith) (subst (IsBlock (now (c .before .before .before .before .before .before .before .before .before .before .before .before .before .args .rec)) (l .at) (l .places) (l .total) (l .row) _) (c .before .number .given .1) (c .before .before .before .before .before .judge-block .ensures))
 
 same-length-3 : tie.Need-same-length-3 Inv-loop μ-loop
 same-length-3 c = search needs
 
 returns-3 : tie.Need-returns-3 Inv-loop μ-loop
-returns-3 c = blocks-cut (c .before .before .before .loop .inv) (c .before .before .tag-at .ensures) (c .before .if1 .left) (c .if3 .taken)
+returns-3 c = blocks-cut (c .before .before .before .loop .inv) (c .before .before .head-tag .ensures) (c .before .if1 .left) (c .if3 .taken)
 
 same-length-4 : tie.Need-same-length-4 Inv-loop μ-loop
 same-length-4 c = search needs
 
 returns-4 : tie.Need-returns-4 Inv-loop μ-loop
-returns-4 c = blocks-end (c .before .before .before .loop .inv) (c .before .before .tag-at .ensures) (c .before .if1 .left) (c .if3 .left)
+returns-4 c = blocks-end (c .before .before .before .loop .inv) (c .before .before .head-tag .ensures) (c .before .if1 .left) (c .if3 .left)
 
 pub judge-blocks-spec : {M : Type 1} → statement M
 judge-blocks-spec =
@@ -70,7 +70,7 @@ judge-blocks-spec =
     Inv-loop
     μ-loop
     loop-holds
-    tag-at-requires
+    head-tag-requires
     same-length
     returns
     judge-block-requires

@@ -26,11 +26,11 @@ the-field c =
 loop-holds : tie.Need-loop-holds Inv-loop μ-loop
 loop-holds c = pieces-none _ _ _ _ _ (c .before .pre)
 
-tag-at-requires : tie.Need-tag-at-requires Inv-loop μ-loop
-tag-at-requires c κs = search needs
+head-tag-requires : tie.Need-head-tag-requires Inv-loop μ-loop
+head-tag-requires c κs = search needs
 
 returns : tie.Need-returns Inv-loop μ-loop
-returns c = pieces-full (c .before .before .before .loop .inv) (c .before .before .tag-at .ensures) (c .before .if1 .taken) (c .if2 .taken)
+returns c = pieces-full (c .before .before .before .loop .inv) (c .before .before .head-tag .ensures) (c .before .if1 .taken) (c .if2 .taken)
 
 field-at-requires : tie.Need-field-at-requires Inv-loop μ-loop
 field-at-requires c κs = c .before .before .before .loop .inv .inside
@@ -42,7 +42,7 @@ enum-told : tie.Need-enum-told Inv-loop μ-loop
 enum-told c = search needs
 
 returns-2 : tie.Need-returns-2 Inv-loop μ-loop
-returns-2 c = let l = c .before .before .before .before .before .before .loop in pieces-bad (l .inv) (c .before .before .before .before .before .tag-at .ensures) (l .left - 1) (c .before .before .before .before .if1 .taken) (omega arith) (piece-gone _ _ (no-field (now (c .before .before .before .before .before .before .before .before .args .rec)) (l .at) (c .before .before .field-at .result) (c .before .match .keys2) (c .before .before .field-at .ensures)))
+returns-2 c = let l = c .before .before .before .before .before .before .loop in pieces-bad (l .inv) (c .before .before .before .before .before .head-tag .ensures) (l .left - 1) (c .before .before .before .before .if1 .taken) (omega arith) (piece-gone _ _ (no-field (now (c .before .before .before .before .before .before .before .before .args .rec)) (l .at) (c .before .before .field-at .result) (c .before .match .keys2) (c .before .before .field-at .ensures)))
 
 sub-is-piece : tie.Need-sub-is-piece Inv-loop μ-loop
 sub-is-piece c = the-field c .ends
@@ -63,16 +63,16 @@ loop-less : tie.Need-loop-less Inv-loop μ-loop
 loop-less c = search needs
 
 loop-again : tie.Need-loop-again Inv-loop μ-loop
-loop-again c = let l = c .before .before .before .before .before .before .before .before .before .before .loop in let f = the-field (c .before .before .before) in pieces-more (l .inv) (c .before .before .before .before .before .before .before .before .before .tag-at .ensures) (l .left - 1) (c .before .before .before .before .before .before .before .before .if1 .taken) (omega arith) f (piece-yes _ f (c .before .is-piece .ensures) (c .if3 .taken))
+loop-again c = let l = c .before .before .before .before .before .before .before .before .before .before .loop in let f = the-field (c .before .before .before) in pieces-more (l .inv) (c .before .before .before .before .before .before .before .before .before .head-tag .ensures) (l .left - 1) (c .before .before .before .before .before .before .before .before .if1 .taken) (omega arith) f (piece-yes _ f (c .before .is-piece .ensures) (c .if3 .taken))
 
 returns-3 : tie.Need-returns-3 Inv-loop μ-loop
-returns-3 c = let l = c .before .before .before .before .before .before .before .before .before .before .loop in let f = the-field (c .before .before .before) in pieces-bad (l .inv) (c .before .before .before .before .before .before .before .before .before .tag-at .ensures) (l .left - 1) (c .before .before .before .before .before .before .before .before .if1 .taken) (omega arith) (piece-no _ f (c .before .is-piece .ensures) (c .if3 .left))
+returns-3 c = let l = c .before .before .before .before .before .before .before .before .before .before .loop in let f = the-field (c .before .before .before) in pieces-bad (l .inv) (c .before .before .before .before .before .before .before .before .before .head-tag .ensures) (l .left - 1) (c .before .before .before .before .before .before .before .before .if1 .taken) (omega arith) (piece-no _ f (c .before .is-piece .ensures) (c .if3 .left))
 
 sub-t19 : tie.Need-sub-t19 Inv-loop μ-loop
 sub-t19 c = omega (arith, c .before .before .loop .inv .count)
 
 returns-4 : tie.Need-returns-4 Inv-loop μ-loop
-returns-4 c = pieces-end (c .before .before .loop .inv) (c .before .tag-at .ensures) (c .if1 .left)
+returns-4 c = pieces-end (c .before .before .loop .inv) (c .before .head-tag .ensures) (c .if1 .left)
 
 pub judge-pieces-spec : {M : Type 1} → statement M
 judge-pieces-spec =
@@ -81,7 +81,7 @@ judge-pieces-spec =
     Inv-loop
     μ-loop
     loop-holds
-    tag-at-requires
+    head-tag-requires
     returns
     field-at-requires
     enum-known-start

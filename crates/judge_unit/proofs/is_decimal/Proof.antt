@@ -8,8 +8,8 @@ use Rattle.judge_unit.specs.Units.{decimalAt}
 use Rattle.judge_unit.proofs.is_decimal.Statement.{statement}
 use Rattle.judge_unit.proofs.is_decimal.Tie as tie
 
-sub-if1 : tie.Need-sub-if1
-sub-if1 c = search needs
+add-if1 : tie.Need-add-if1
+add-if1 c = search needs
 
 returns : tie.Need-returns
 unfolding decimalAt
@@ -42,7 +42,7 @@ pub is-decimal-spec : {M : Type 1} → statement M
 is-decimal-spec =
     tie.close
     (tie.spec
-    sub-if1
+    add-if1
     returns
     number-at-requires
     returns-2

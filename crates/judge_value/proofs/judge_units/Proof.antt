@@ -33,14 +33,14 @@ returns c = let a = c .before .before .before .args in units-none _ _ (unit-no (
 loop-holds : tie.Need-loop-holds Inv-loop μ-loop
 loop-holds c = let a = c .before .before .before .args in units-first (unit-yes (baseAt (a .base)) (now (a .rec)) (a .from) _ (c .before .unit-end .ensures) (c .if1 .left))
 
-tag-at-requires : tie.Need-tag-at-requires Inv-loop μ-loop
-tag-at-requires c κs = search needs
+head-tag-requires : tie.Need-head-tag-requires Inv-loop μ-loop
+head-tag-requires c κs = search needs
 
 is-unit-requires : tie.Need-is-unit-requires Inv-loop μ-loop
 is-unit-requires c κs = search needs
 
 returns-2 : tie.Need-returns-2 Inv-loop μ-loop
-returns-2 c = units-full (c .before .before .before .before .loop .inv) (c .before .before .before .tag-at .ensures) (c .before .before .is-unit .ensures) (c .before .if2 .taken) (c .if3 .taken)
+returns-2 c = units-full (c .before .before .before .before .loop .inv) (c .before .before .before .head-tag .ensures) (c .before .before .is-unit .ensures) (c .before .if2 .taken) (c .if3 .taken)
 
 unit-end-requires-2 : tie.Need-unit-end-requires-2 Inv-loop μ-loop
 unit-end-requires-2 c κs = c .before .before .before .before .loop .inv .inside
@@ -49,7 +49,7 @@ returns-3 : tie.Need-returns-3 Inv-loop μ-loop
 returns-3 c =
     let s = c .before .before .before .before .before .before in
     let a = s .before .before .before .before .args in
-    units-bad (s .loop .inv) (c .before .before .before .before .before .tag-at .ensures) (c .before .before .before .before .is-unit .ensures) (c .before .before .before .if2 .taken) (c .before .before .if3 .left)
+    units-bad (s .loop .inv) (c .before .before .before .before .before .head-tag .ensures) (c .before .before .before .before .is-unit .ensures) (c .before .before .before .if2 .taken) (c .before .before .if3 .left)
     (unit-no (baseAt (a .base)) (now (a .rec)) (s .loop .at) _ (c .before .unit-end2 .ensures) (c .if4 .taken))
 
 add-count : tie.Need-add-count Inv-loop μ-loop
@@ -60,10 +60,10 @@ loop-less c = let u = one-more c in omega (arith, u .on, u .inside)
 
 loop-again : tie.Need-loop-again Inv-loop μ-loop
 loop-again c =
-    units-more (c .before .before .before .before .before .before .loop .inv) (c .before .before .before .before .before .tag-at .ensures) (c .before .before .before .before .is-unit .ensures) (c .before .before .before .if2 .taken) (c .before .before .if3 .left) (one-more c)
+    units-more (c .before .before .before .before .before .before .loop .inv) (c .before .before .before .before .before .head-tag .ensures) (c .before .before .before .before .is-unit .ensures) (c .before .before .before .if2 .taken) (c .before .before .if3 .left) (one-more c)
 
 returns-4 : tie.Need-returns-4 Inv-loop μ-loop
-returns-4 c = units-end (c .before .before .before .loop .inv) (c .before .before .tag-at .ensures) (c .before .is-unit .ensures) (c .if2 .left)
+returns-4 c = units-end (c .before .before .before .loop .inv) (c .before .before .head-tag .ensures) (c .before .is-unit .ensures) (c .if2 .left)
 
 pub judge-units-spec : {M : Type 1} → statement M
 judge-units-spec =
@@ -74,7 +74,7 @@ judge-units-spec =
     unit-end-requires
     returns
     loop-holds
-    tag-at-requires
+    head-tag-requires
     is-unit-requires
     returns-2
     unit-end-requires-2

@@ -4,11 +4,10 @@ use Rattle.judge_value.proofs.ValueLaws.{ValueRead, value-none, value-e
 use Rattle.judge_value.specs.Judging.{ElementIs, IsElement}
 use Rattle.rules.specs.Records.{isElement}
 use Rattle.rules.specs.Units.{baseAt}
-use lib.ListN.{length}
 use denote.Ref.{now}
 use native.Mathlib.Omega.{arith}
-use Prim.Native.Nat.{ℕ, _-_}
-use mathlib.Core.Path.{_≡_, refl, sym, ap, _∙_, subst}
+use Prim.Native.Nat.{_-_}
+use mathlib.Core.Path.{sym, ap, _∙_, subst}
 use Rattle.judge_value.proofs.judge_value.Statement.{statement}
 use Rattle.judge_value.proofs.judge_value.Tie as tie
 
@@ -26,17 +25,17 @@ the-element c = subst (IsElement (baseAt (c .before .before .before .before .bef
 loop-holds : tie.Need-loop-holds Inv-loop μ-loop
 loop-holds c = value-none _ _ _ (c .before .pre)
 
-tag-at-requires : tie.Need-tag-at-requires Inv-loop μ-loop
-tag-at-requires c κs = search needs
+head-tag-requires : tie.Need-head-tag-requires Inv-loop μ-loop
+head-tag-requires c κs = search needs
 
 is-element-requires : tie.Need-is-element-requires Inv-loop μ-loop
 is-element-requires c κs = search needs
 
 returns : tie.Need-returns Inv-loop μ-loop
-returns c = value-full (c .before .before .before .before .loop .inv) (c .before .before .before .tag-at .ensures) (c .before .before .is-element .ensures) (c .before .if1 .taken) (c .if2 .taken)
+returns c = value-full (c .before .before .before .before .loop .inv) (c .before .before .before .head-tag .ensures) (c .before .before .is-element .ensures) (c .before .if1 .taken) (c .if2 .taken)
 
 judge-element-requires : tie.Need-judge-element-requires Inv-loop μ-loop
-judge-element-requires c κs = ap isElement (sym (c .before .before .before .tag-at .ensures)) ∙ sym (c .before .before .is-element .ensures) ∙ c .before .if1 .taken
+judge-element-requires c κs = ap isElement (sym (c .before .before .before .head-tag .ensures)) ∙ sym (c .before .before .is-element .ensures) ∙ c .before .if1 .taken
 
 enum-known-count : tie.Need-enum-known-count Inv-loop μ-loop
 enum-known-count c = search needs
@@ -45,16 +44,16 @@ enum-told : tie.Need-enum-told Inv-loop μ-loop
 enum-told c = search needs
 
 returns-2 : tie.Need-returns-2 Inv-loop μ-loop
-returns-2 c = let l = c .before .before .before .before .before .before .before .loop in value-bad (l .inv) (c .before .before .before .before .before .before .tag-at .ensures) (c .before .before .before .before .before .is-element .ensures) (l .left - 1) (c .before .before .before .before .if1 .taken) (omega arith) (subst (IsElement (baseAt (c .before .before .before .before .before .before .before .before .before .args .base)) (now (c .before .before .before .before .before .before .before .before .before .args .rec)) (l .at)) (c .enum-told .given .1) (c .before .before .judge-element .ensures))
+returns-2 c = let l = c .before .before .before .before .before .before .before .loop in value-bad (l .inv) (c .before .before .before .before .before .before .head-tag .ensures) (c .before .before .before .before .before .is-element .ensures) (l .left - 1) (c .before .before .before .before .if1 .taken) (omega arith) (subst (IsElement (baseAt (c .before .before .before .before .before .before .before .before .before .args .base)) (now (c .before .before .before .before .before .before .before .before .before .args .rec)) (l .at)) (c .enum-told .given .1) (c .before .before .judge-element .ensures))
 
 joins-requires : tie.Need-joins-requires Inv-loop μ-loop
 joins-requires c κs = c .before .before .before .before .before .before .before .before .loop .inv .few
 
 add-arguments : tie.Need-add-arguments Inv-loop μ-loop
-add-arguments c = let l = c .before .before .before .before .before .before .before .before .before .before .loop in record { fits = omega (arith, sum-few (l .inv) (c .before .before .before .before .before .before .before .before .before .tag-at .ensures) (c .before .before .before .before .before .before .before .before .is-element .ensures) (the-element (c .before .before)) (c .before .joins .ensures) (c .if3 .taken)) }
+add-arguments c = let l = c .before .before .before .before .before .before .before .before .before .before .loop in record { fits = omega (arith, sum-few (l .inv) (c .before .before .before .before .before .before .before .before .before .head-tag .ensures) (c .before .before .before .before .before .before .before .before .is-element .ensures) (the-element (c .before .before)) (c .before .joins .ensures) (c .if3 .taken)) }
 
 add-arguments-2 : tie.Need-add-arguments-2 Inv-loop μ-loop
-add-arguments-2 c = let l = c .before .before .before .before .before .before .before .before .before .before .loop in record { fits = omega (arith, sum-few (l .inv) (c .before .before .before .before .before .before .before .before .before .tag-at .ensures) (c .before .before .before .before .before .before .before .before .is-element .ensures) (the-element (c .before .before)) (c .before .joins .ensures) (c .if3 .taken)) }
+add-arguments-2 c = let l = c .before .before .before .before .before .before .before .before .before .before .loop in record { fits = omega (arith, sum-few (l .inv) (c .before .before .before .before .before .before .before .before .before .head-tag .ensures) (c .before .before .before .before .before .before .before .before .is-element .ensures) (the-element (c .before .before)) (c .before .joins .ensures) (c .if3 .taken)) }
 
 sub-left : tie.Need-sub-left Inv-loop μ-loop
 sub-left c = search needs
@@ -63,13 +62,13 @@ loop-less : tie.Need-loop-less Inv-loop μ-loop
 loop-less c = search needs
 
 loop-again : tie.Need-loop-again Inv-loop μ-loop
-loop-again c = let l = c .before .before .before .before .before .before .before .before .before .before .loop in value-more (l .inv) (c .before .before .before .before .before .before .before .before .before .tag-at .ensures) (c .before .before .before .before .before .before .before .before .is-element .ensures) (the-element (c .before .before)) (c .before .joins .ensures) (l .left - 1) (c .before .before .before .before .before .before .before .if1 .taken) (omega arith) (c .if3 .taken)
+loop-again c = let l = c .before .before .before .before .before .before .before .before .before .before .loop in value-more (l .inv) (c .before .before .before .before .before .before .before .before .before .head-tag .ensures) (c .before .before .before .before .before .before .before .before .is-element .ensures) (the-element (c .before .before)) (c .before .joins .ensures) (l .left - 1) (c .before .before .before .before .before .before .before .if1 .taken) (omega arith) (c .if3 .taken)
 
 returns-3 : tie.Need-returns-3 Inv-loop μ-loop
-returns-3 c = let l = c .before .before .before .before .before .before .before .before .before .before .loop in value-apart (l .inv) (c .before .before .before .before .before .before .before .before .before .tag-at .ensures) (c .before .before .before .before .before .before .before .before .is-element .ensures) (the-element (c .before .before)) (c .before .joins .ensures) (l .left - 1) (c .before .before .before .before .before .before .before .if1 .taken) (omega arith) (c .if3 .left)
+returns-3 c = let l = c .before .before .before .before .before .before .before .before .before .before .loop in value-apart (l .inv) (c .before .before .before .before .before .before .before .before .before .head-tag .ensures) (c .before .before .before .before .before .before .before .before .is-element .ensures) (the-element (c .before .before)) (c .before .joins .ensures) (l .left - 1) (c .before .before .before .before .before .before .before .if1 .taken) (omega arith) (c .if3 .left)
 
 returns-4 : tie.Need-returns-4 Inv-loop μ-loop
-returns-4 c = value-end (c .before .before .before .loop .inv) (c .before .before .tag-at .ensures) (c .before .is-element .ensures) (c .if1 .left)
+returns-4 c = value-end (c .before .before .before .loop .inv) (c .before .before .head-tag .ensures) (c .before .is-element .ensures) (c .if1 .left)
 
 pub judge-value-spec : {M : Type 1} → statement M
 judge-value-spec =
@@ -78,7 +77,7 @@ judge-value-spec =
     Inv-loop
     μ-loop
     loop-holds
-    tag-at-requires
+    head-tag-requires
     is-element-requires
     returns
     judge-element-requires
