@@ -2,21 +2,20 @@
 use Rattle.laws.specs.Cases.{Always}
 use Prim.Native.Nat.{ℕ, zero, suc, _+_, _*_, _≤_, _<_}
 use mathlib.Core.Path.{_≡_, refl, sym, ap, ap₂, _∙_, subst}
-use mathlib.Core.Bool.{Bool, true, false, cond, _&&_, _||_, not, false≢true, Bool·beq}
+use mathlib.Core.Bool.{Bool, true, false, not, false≢true, Bool·beq}
 use mathlib.Core.List.{List, [], _∷_, _++_, map, append-nil, append-assoc}
-use mathlib.Core.Option.{Option, none, some}
 use native.Mathlib.Nat.{add-zero, not-suc-le-zero, le-of-suc-le-suc}
 use native.Mathlib.Omega.{arith}
-use lib.Dec.{leb, ltb, eqb}
+use lib.Dec.{ltb, eqb}
 use lib.ListN.{length, getD, length-append, length-map}
-use borrow.Author.Tests.{eqb-true, leb-true, le-leb, lt-ltb, ltb-true, not-true}
-use Rattle.laws.specs.Cases.{byBool, and-l, and-r, byOption, none≢some, some-inj}
+use borrow.Author.Tests.{lt-ltb, ltb-true}
+use Rattle.laws.specs.Cases.{byBool, and-l, and-r, byOption}
 use Rattle.laws.specs.Lists.{all, any, all-append, isNil}
-use Rattle.rules.specs.Commands.{Name, Element, Place, place, Block, block, Command, command, placeCount, mult, isIndexNumber, isSep, Seg, seg, first, consHead, split, Cut, cut, uncut, consCut, cutAt, piece, pieces, isPiece, isCut, placeBase, placeName, sameName, placesOf, allPlaces}
+use Rattle.rules.specs.Commands.{Name, Element, Place, place, Block, block, Command, placeCount, mult, isSep, Seg, seg, first, consHead, split, Cut, cut, uncut, consCut, cutAt, piece, pieces, isPiece, isCut, placeBase, placeName, sameName, placesOf, allPlaces}
 use Rattle.rules.specs.Groups.{isJoiner, readValue}
-use Rattle.rules.specs.Reading.{Placed, placed, unplaced, readPosition, readNamed, readOfKind, readPlace, readPlaces, kindOf, PlacedBlock, placedBlock, readBlock, blockSize, readBlocks, running, runningBlocks, blockOf, readSegs, readCut, readLetters}
+use Rattle.rules.specs.Reading.{Placed, placed, unplaced, readPosition, readNamed, readOfKind, readPlace, readPlaces, kindOf, PlacedBlock, placedBlock, readBlock, blockSize, readBlocks, runningBlocks, blockOf, readSegs, readCut, readLetters}
 use Rattle.rules.specs.Records.{basesOf}
-use Rattle.rules.specs.Refusals.{Res, ok, bad, _>>=_, mapR, guard}
+use Rattle.rules.specs.Refusals.{ok, bad, mapR}
 use Rattle.rules.specs.Tokens.{Sep, dash, comma, colon, equals, semi, Lex, word, str, sep, Token, at, sepCode, posOf, lexOf}
 use Rattle.rules.specs.Units.{rD, Base, plain, letter, isIdentifier, baseOf}
 use Rattle.rules.proofs.CommandBack.{pastL, noSep, split-none, split-at, cut-none, cut-at, Along, along-split, PlaceBack, PlacesBack, BlockBack, runningB-ok}

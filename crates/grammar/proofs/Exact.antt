@@ -6,12 +6,12 @@ use native.Mathlib.Omega.{arith}
 use lib.ListN.{length, length-map}
 use Rattle.rules.specs.Commands.{Command, cutAt}
 use Rattle.rules.specs.Reading.{readCut, readLetters, read}
-use Rattle.rules.specs.Refusals.{Res, ok, bad}
-use Rattle.rules.specs.Tokens.{Lex, Token, at, semi, scan, lexOf, posOf}
-use Rattle.rules.specs.Units.{Base, letter}
+use Rattle.rules.specs.Refusals.{ok, bad}
+use Rattle.rules.specs.Tokens.{Token, at, semi, scan, lexOf, posOf}
+use Rattle.rules.specs.Units.{letter}
 use Rattle.rules.proofs.ResultLaws.{bind-ok, ok-inj, ok≢bad}
 use Rattle.rules.proofs.ValueBack.{toks}
-use Rattle.grammar.specs.Grammar.{Derives, Spells, Follows}
+use Rattle.grammar.specs.Grammar.{Follows}
 use Rattle.grammar.proofs.CommandExact.{derives-sound, derives-complete, bases-sound, bases-complete}
 use Rattle.grammar.proofs.TextSound.{spells-sound}
 use Rattle.grammar.proofs.TextComplete.{Scanned, spells-complete}

@@ -1,18 +1,18 @@
 -- A text that spells tokens is scanned to them: format effectors leave every outer state, and each token's bytes end in `idle`.
-use Prim.Native.Nat.{ℕ, zero, suc, _+_, _≤_, _<_}
+use Prim.Native.Nat.{ℕ, suc, _≤_}
 use mathlib.Core.Path.{_≡_, refl, sym, ap, ap₂, _∙_, subst}
-use mathlib.Core.Bool.{Bool, true, false, cond, _&&_, _||_, not, false≢true}
-use mathlib.Core.List.{List, [], _∷_, _++_, map, reverse, reverseAux, append-nil, append-assoc}
+use mathlib.Core.Bool.{Bool, true, false, _&&_, _||_, not, false≢true}
+use mathlib.Core.List.{List, [], _∷_, _++_, map, reverse, reverseAux}
 use native.Mathlib.Omega.{arith}
-use lib.Dec.{leb, ltb, eqb}
+use lib.Dec.{leb, eqb}
 use lib.ListN.{length}
-use borrow.Author.Tests.{eqb-true, eqb-false, leb-true, le-leb, not-true}
+use borrow.Author.Tests.{eqb-true, eqb-false, leb-true, le-leb}
 use Rattle.laws.specs.Cases.{byBool, and-l, and-r}
-use Rattle.laws.specs.Lists.{all, any, isNil}
+use Rattle.laws.specs.Lists.{all}
 use Rattle.rules.specs.Characters.{between, isWordChar, isEffector, isPermitted}
 use Rattle.rules.specs.Printing.{sepText}
-use Rattle.rules.specs.Refusals.{Res, ok, bad, _>>=_}
-use Rattle.rules.specs.Tokens.{lexOf, Sep, ampamp-, ampamp, amp-, amp, plusplus, dash, comma, colon, equals, semi, Lex, word, str, sep, Token, at, State, idle, inWord, inPlus, oneAmp, twoAmp, slash, comment, star, inStr, quote, wordChars, wordMost, wordToken, strToken, wordTokens, flush, andThen, Step, stay, emit, fresh, after, end, step, next, run, firstOff, scan}
+use Rattle.rules.specs.Refusals.{Res, ok}
+use Rattle.rules.specs.Tokens.{lexOf, Sep, ampamp-, ampamp, amp-, amp, plusplus, dash, comma, colon, equals, semi, Lex, word, str, sep, Token, at, State, idle, inWord, inPlus, oneAmp, twoAmp, slash, comment, star, inStr, quote, wordChars, wordMost, wordToken, strToken, flush, andThen, stay, emit, end, step, next, run, firstOff, scan}
 use Rattle.rules.specs.Units.{runOf}
 use Rattle.rules.proofs.ScanBack.{ended, stepW-end, stepP-end, then-assoc, then-nil}
 use Rattle.grammar.specs.Grammar.{inWords, double, Mark, char, remark, quoted, begins, Comment, close, inside, Quoted, mark, isPlain, Shows, done, effector, visible, comment as comment′, string, nextIs, longer, Ends, other, plus, Tokens, separator, letters, Spells}

@@ -1,23 +1,21 @@
 -- What the scan accepts, the grammar derives: each state of the automaton stands for marks already seen.
 use Rattle.laws.specs.Cases.{Always}
-use Prim.Native.Nat.{ℕ, zero, suc, _+_, _≤_, _<_}
+use Prim.Native.Nat.{ℕ, suc, _≤_}
 use mathlib.Core.Path.{_≡_, refl, sym, ap, ap₂, _∙_, subst}
-use mathlib.Core.Bool.{Bool, true, false, cond, _&&_, _||_, not, false≢true}
-use mathlib.Core.List.{List, [], _∷_, _++_, map, reverse, reverseAux, append-nil, append-assoc}
-use native.Mathlib.Omega.{arith}
-use lib.Dec.{leb, ltb, eqb}
+use mathlib.Core.Bool.{Bool, true, false, _||_, false≢true}
+use mathlib.Core.List.{List, [], _∷_, _++_, map, reverse, reverseAux, append-nil}
+use lib.Dec.{leb, eqb}
 use lib.ListN.{length}
-use borrow.Author.Tests.{eqb-true, leb-true, le-leb, not-true, ltb-true}
-use Rattle.laws.specs.Cases.{byBool, and-l, and-r}
-use Rattle.laws.specs.Lists.{all, any, isNil}
-use Rattle.rules.specs.Characters.{isWordChar, isEffector, isPermitted}
-use Rattle.rules.specs.Printing.{sepText}
-use Rattle.rules.specs.Refusals.{Res, ok, bad, _>>=_}
-use Rattle.rules.specs.Tokens.{lexOf, Sep, ampamp-, ampamp, amp-, amp, plusplus, dash, comma, colon, equals, semi, Lex, word, str, sep, Token, at, State, idle, inWord, inPlus, oneAmp, twoAmp, slash, comment, star, inStr, quote, wordChars, wordMost, wordToken, strToken, wordTokens, flush, andThen, Step, stay, emit, fresh, after, end, step, next, run, firstOff, scan}
+use borrow.Author.Tests.{eqb-true, leb-true}
+use Rattle.laws.specs.Cases.{byBool}
+use Rattle.laws.specs.Lists.{all, isNil}
+use Rattle.rules.specs.Characters.{isWordChar, isEffector}
+use Rattle.rules.specs.Refusals.{Res, ok, bad}
+use Rattle.rules.specs.Tokens.{lexOf, Sep, ampamp-, ampamp, amp-, amp, plusplus, dash, comma, colon, equals, semi, Lex, word, str, sep, Token, at, State, idle, inWord, inPlus, oneAmp, twoAmp, slash, comment, star, inStr, quote, wordChars, wordMost, wordToken, wordTokens, flush, andThen, end, step, run, firstOff, scan}
 use Rattle.rules.proofs.ResultLaws.{ok-inj, ok≢bad, bind-ok, cond-ok}
-use Rattle.rules.proofs.ScanBack.{ended, stepW-end, stepP-end, then-assoc, then-nil}
+use Rattle.rules.proofs.ScanBack.{ended, stepW-end, stepP-end, then-assoc}
 use Rattle.rules.proofs.ScanSound.{Goes, words-end, plus-end, reverse-some, some-aux, off-none}
-use Rattle.grammar.specs.Grammar.{inWords, double, Mark, char, remark, quoted, begins, Comment, close, inside, Quoted, mark, isPlain, Shows, done, effector, visible, comment as comment′, string, nextIs, longer, Ends, other, plus, Tokens, separator, letters, Spells}
+use Rattle.grammar.specs.Grammar.{inWords, double, Mark, char, remark, quoted, begins, Comment, close, inside, Quoted, mark, isPlain, Shows, done, effector, visible, comment as comment′, string, nextIs, Ends, other, plus, Tokens, separator, letters, Spells}
 use Rattle.grammar.proofs.WordExact.{chars-are}
 
 -- ======== sound

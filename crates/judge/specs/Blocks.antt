@@ -1,6 +1,6 @@
 -- Blocks and the whole record, read from the front of bytes: each field as document 01's rules read it, and the rules and limits on each met at once.
 use mathlib.Core.Bool.{Bool, false, _&&_, _||_, not}
-use mathlib.Core.List.{List, [], map}
+use mathlib.Core.List.{List, map}
 use mathlib.Core.Option.{Option, none, some}
 use Prim.Native.Nat.{ℕ, suc, _+_, _-_, _*_}
 use lib.Dec.{leb, eqb}

@@ -13,7 +13,7 @@ use Rattle.laws.specs.Cases.{and-l, and-r}
 use Rattle.rules.specs.Refusals.{mostValue}
 use Rattle.rules.specs.Characters.{byte}
 use Rattle.rules.specs.Units.{rD, Base, Unit, baseAt}
-use Rattle.rules.specs.Records.{field, numeralTag, num4, unitOf}
+use Rattle.rules.specs.Records.{numeralTag, num4, unitOf}
 use Rattle.rules.specs.WellFormed.{okFraction}
 use Rattle.digits.specs.Digits.{plainLetter}
 use Rattle.record_walk.specs.declared.Found.the-variants.{Field}

@@ -12,7 +12,7 @@ use lib.ListN.{length, getD, drop, length-drop}
 use lib.Seq.{getD-drop}
 use Rattle.laws.specs.Cases.{Always, pick-if, byBool, or-cases}
 use Rattle.rules.specs.Units.{Radix, Base, Unit, num, keyed, identifier, symbolic, text}
-use Rattle.rules.specs.Commands.{single, range, terms}
+use Rattle.rules.specs.Commands.{single, range}
 use Rattle.rules.specs.Records.{singleTag, rangeTag, numeralTag, isElement, bytesOf, ends, num4, rangeOf, elementOf}
 use Rattle.rules.specs.WellFormed.{wfUnit}
 use Rattle.rules.proofs.DecodeEncode.{four, value-small, last-split}

@@ -1,7 +1,7 @@
 -- Units, elements and values, read from the front of a record's bytes: each field as document 01's rules read it, and the rules on each met at once.
 use mathlib.Core.Bool.{Bool, true, _&&_, _||_, not}
-use mathlib.Core.List.{List, [], _∷_}
-use mathlib.Core.Option.{Option, none, some}
+use mathlib.Core.List.{List}
+use mathlib.Core.Option.{Option}
 use Prim.Native.Nat.{ℕ, suc, _+_, _-_, _/_}
 use lib.Dec.{leb, eqb}
 use lib.ListN.{length, getD}

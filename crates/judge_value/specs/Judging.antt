@@ -1,7 +1,7 @@
 -- What the judge's answers on units, elements and values say: what was read from the front of the bytes, its numbers, and where the rest begins.
 use mathlib.Core.Path.{_≡_}
 use mathlib.Core.List.{List, [], _∷_, _++_, map}
-use mathlib.Core.Option.{Option, none, some}
+use mathlib.Core.Option.{none, some}
 use Prim.Native.Nat.{ℕ, suc, _+_, _≤_, _<_}
 use lib.ListN.{length, drop}
 use Rattle.rules.specs.Units.{Base, Unit}

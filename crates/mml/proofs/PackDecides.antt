@@ -9,7 +9,7 @@ use Rattle.rules.specs.declared.Answer.{Answer}
 use Rattle.rules.specs.declared.Answer.the-variants.{Done, Refused}
 use Rattle.rules.specs.declared.Keeper.{Keeper}
 use Rattle.rules.specs.Refusals.{Res, mapR}
-use Rattle.rules.specs.Answers.{reading, printing, ordering, counting, answered, buffered, numberOf, valueOf}
+use Rattle.rules.specs.Answers.{reading, printing, ordering, counting, answered, numberOf, valueOf}
 use Rattle.rules.specs.Keeping.{afterKey}
 use Rattle.rules.proofs.AnswersFit.{reading-most, printing-most, ordering-most, counting-most, pressing-most}
 use Rattle.mml.specs.Interface.{packed, Packs, PacksCount, PacksKey}

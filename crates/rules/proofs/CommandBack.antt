@@ -16,10 +16,10 @@ use Rattle.rules.specs.Orders.{blockCount}
 use Rattle.rules.specs.Printing.{unitLex, Link, link, firstUnit, dashLinks, tailLinks, restLinks, linksLex, valueLex, moreLex, joinedLex, wordLex, nameLex, placeLex, blockLex, commandLex}
 use Rattle.rules.specs.Reading.{Placed, placed, unplaced, readPlace, readPlaces, kindOf, PlacedBlock, placedBlock, readBlock, blockSize, readBlocks, running, runningBlocks, blockOf, readSegs, readCut}
 use Rattle.rules.specs.Records.{basesOf, allBases}
-use Rattle.rules.specs.Refusals.{ok, _>>=_}
+use Rattle.rules.specs.Refusals.{ok}
 use Rattle.rules.specs.Tokens.{Sep, dash, comma, colon, equals, semi, Lex, sep, at, sepCode}
 use Rattle.rules.specs.Units.{rD, Base, plain, Unit, num, keyed, identifier, symbolic, text, isIdentifier}
-use Rattle.rules.specs.WellFormed.{wfUnit, wfValue, short, wfPieces, wfPlace, wfBlock, wellFormed}
+use Rattle.rules.specs.WellFormed.{wfUnit, wfValue, wfPieces, wfPlace, wfBlock, wellFormed}
 use Rattle.rules.proofs.Counts.{count-pos}
 use Rattle.rules.proofs.Names.{freeOf, fresh, fresh-names, block-places, block-names}
 use Rattle.rules.proofs.ValueBack.{hd, tl, toks, value-back, linkOk, inner-ok, rest-ok, v-elem, v-rest}

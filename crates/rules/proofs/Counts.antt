@@ -1,8 +1,8 @@
 -- Every element names a term, so every value counts at least one argument.
-use Prim.Native.Nat.{ℕ, _+_, _<_}
-use mathlib.Core.List.{List, [], _∷_, map}
+use Prim.Native.Nat.{_<_}
+use mathlib.Core.List.{List, [], _∷_}
 use native.Mathlib.Omega.{arith}
-use Rattle.rules.specs.Commands.{Element, single, range, terms, sum, valueCount}
+use Rattle.rules.specs.Commands.{Element, single, range, terms, valueCount}
 
 pub terms-pos : (e : Element) → 0 < terms e
 terms-pos (single l u) = omega arith

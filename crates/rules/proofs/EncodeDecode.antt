@@ -1,13 +1,13 @@
 -- Well-formed bytes and well-formed trees are the same thing: what is read off bytes is encoded to them again, by the test in `judged`; and an encoded
 -- tree decodes to itself, so that it passes that test.
 use Prim.Native.Nat.{ℕ}
-use mathlib.Core.Path.{_≡_, refl, sym, ap, _∙_, subst}
-use mathlib.Core.Bool.{Bool, true, false, _&&_}
-use mathlib.Core.List.{List, [], _∷_}
+use mathlib.Core.Path.{_≡_, subst}
+use mathlib.Core.Bool.{true, _&&_}
+use mathlib.Core.List.{List}
 use mathlib.Core.Option.{Option, none, some}
-use Rattle.laws.specs.Cases.{byBool, byOption, and-l, and-r}
+use Rattle.laws.specs.Cases.{and-l, and-r}
 use Rattle.laws.specs.Lists.{eqL, eqL-is, eqL-refl}
-use Rattle.rules.specs.Refusals.{Res, ok, bad, _>>=_, guard}
+use Rattle.rules.specs.Refusals.{ok, bad}
 use Rattle.rules.specs.Commands.{Command}
 use Rattle.rules.specs.Records.{encode, decode}
 use Rattle.rules.specs.WellFormed.{wellFormed, judged, recordOf}

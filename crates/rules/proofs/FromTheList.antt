@@ -1,7 +1,7 @@
 -- "one number from the list": what each call may refuse with, and where; the numbers are the paper's, written out, and a place lies in what its number speaks of.
-use Prim.Native.Nat.{ℕ, _+_, _<_, _≤_}
-use mathlib.Core.Path.{_≡_, refl}
-use mathlib.Core.Bool.{Bool, true, false, _&&_}
+use Prim.Native.Nat.{ℕ, _<_, _≤_}
+use mathlib.Core.Path.{_≡_}
+use mathlib.Core.Bool.{true, false, _&&_}
 use mathlib.Core.List.{List, [], _∷_}
 use mathlib.Core.Option.{Option, none, some}
 use native.Mathlib.Omega.{arith}
@@ -13,10 +13,9 @@ use Rattle.laws.specs.Keys.{anyOf}
 use Rattle.laws.specs.Lists.{eqL}
 use Rattle.rules.specs.declared.Keeper.{Keeper}
 use Rattle.rules.specs.Refusals.{Res, ok, bad, _>>=_, mapR, guard, mostText}
-use Rattle.rules.specs.Tokens.{Token, semi, State, idle, run, firstOff, scan}
-use Rattle.rules.specs.Units.{Base}
+use Rattle.rules.specs.Tokens.{Token, semi, idle, run, firstOff, scan}
 use Rattle.rules.specs.Commands.{Command, command, cutAt}
-use Rattle.rules.specs.Reading.{readLetters, readCut, read}
+use Rattle.rules.specs.Reading.{readLetters, read}
 use Rattle.rules.specs.Records.{encode, decode}
 use Rattle.rules.specs.WellFormed.{wellFormed, judged, recordOf}
 use Rattle.rules.specs.Printing.{print}

@@ -6,7 +6,7 @@ use mathlib.Core.List.{List, [], _∷_, _++_, map}
 use lib.ListN.{length}
 use Rattle.rules.specs.declared.Keeper.{Keeper}
 use Rattle.rules.specs.declared.Pressed.{Pressed}
-use Rattle.rules.specs.Refusals.{Res, ok, bad}
+use Rattle.rules.specs.Refusals.{ok, bad}
 use Rattle.rules.specs.Characters.{bytes}
 use Rattle.rules.specs.Answers.{numberOf, valueOf}
 use Rattle.rules.specs.Keeping.{ready, press, pressing, afterKey, lineAfter}

@@ -12,7 +12,7 @@ use Rattle.rules.specs.Commands.{Name, place, placeName, sameName, Comma
 use Rattle.rules.specs.Groups.{readValue}
 use Rattle.rules.specs.Printing.{lexText, render, valueLex, moreLex, joinedLex, wordLex, nameLex, placeLex, blockLex, commandLex, print}
 use Rattle.rules.specs.Reading.{Placed, placed, unplaced, readPosition, readNamed, readOfKind, readPlace, readPlaces, kindOf, PlacedBlock, placedBlock, readBlock, blockSize, readBlocks, runningBlocks, blockOf, readSegs, readCut, readLetters, read}
-use Rattle.rules.specs.Refusals.{ok, _>>=_, mapR}
+use Rattle.rules.specs.Refusals.{ok, mapR}
 use Rattle.rules.specs.Tokens.{Sep, dash, comma, colon, equals, semi, Lex, word, str, sep, Token, at, idle, run, firstOff, scan, posOf, lexOf}
 use Rattle.rules.specs.Units.{Base, isIdentifier}
 use Rattle.laws.specs.Lists.{any}

@@ -1,21 +1,21 @@
 -- An order's text is not longer than its record's: the order keeps one argument of each value, and that argument's units all stand in the value's
 -- text (leading units in the last element that was printed in full, the last unit in its own element, a range's term below its upper end).
 use Prim.Native.Nat.{ℕ, zero, suc, _+_, _*_, _-_, _/_, _%_, _≤_, _<_}
-use mathlib.Core.Path.{_≡_, refl, sym, ap, _∙_, subst}
-use mathlib.Core.Bool.{Bool, true, false, _&&_, not}
-use mathlib.Core.List.{List, [], _∷_, _++_, map, append-nil}
+use mathlib.Core.Path.{_≡_, refl, ap, _∙_}
+use mathlib.Core.Bool.{Bool, true, false, not}
+use mathlib.Core.List.{List, [], _∷_, _++_, map}
 use native.Mathlib.Nat.{mod-lt, le-div-iff-mul-le, div-mul-le-self, le-trans}
 use native.Mathlib.Omega.{arith}
-use lib.Dec.{ltb, leb}
+use lib.Dec.{ltb}
 use lib.ListN.{length, length-append}
 use borrow.Author.Tests.{ltb-true, ltb-false, le-ltb}
 use Rattle.laws.specs.Cases.{byBool, and-l, and-r}
 use Rattle.laws.specs.Lists.{all, isNil}
 use Rattle.rules.specs.Tokens.{Sep, dash, comma, colon, semi, Lex, sep}
-use Rattle.rules.specs.Units.{Radix, Base, plain, sameBase, radixLetter, size, Unit, num}
+use Rattle.rules.specs.Units.{Radix, Base, plain, sameBase, radixLetter, size, num}
 use Rattle.rules.specs.Commands.{Element, single, range, Place, place, Block, block, Command, command, leading, lastUnit, terms, sum, valueCount}
-use Rattle.rules.specs.WellFormed.{wellFormed, wfBlock, wfPlace, wfValue, wfElement, wfRange}
-use Rattle.rules.specs.Printing.{digits, prefixed, tailLinks, fullLinks, laterLinks, restLinks, isShort, sameUnits, valueLex, moreLex, joinedLex, wordLex, nameLex, placeLex, blockLex, commandLex, print}
+use Rattle.rules.specs.WellFormed.{wellFormed, wfBlock, wfPlace, wfValue, wfRange}
+use Rattle.rules.specs.Printing.{digits, prefixed, tailLinks, fullLinks, laterLinks, restLinks, isShort, sameUnits, valueLex, moreLex, joinedLex, wordLex, nameLex, placeLex, blockLex, print}
 use Rattle.rules.specs.Orders.{termAt, argumentAt, valueAt, placeAt, back, blockAt, orderAt}
 use Rattle.rules.proofs.CommandBack.{c-blocks}
 use Rattle.rules.proofs.Counts.{count-pos}

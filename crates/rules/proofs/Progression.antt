@@ -1,7 +1,6 @@
 -- The terms of a range, once over lower end, increment and number of terms: stepping up to the upper end gives lower + n times increment, (upper - lower) / increment + 1 of them.
 use Prim.Native.Nat.{ℕ, zero, suc, _+_, _-_, _*_, _/_, _≤_, _<_}
 use mathlib.Core.Path.{_≡_, refl, ap, _∙_}
-use mathlib.Core.Bool.{Bool, true, false, cond}
 use mathlib.Core.List.{List, [], _∷_}
 use native.Mathlib.Nat.{div-mul-le-self, div-eq-sub-div, div-eq-of-lt, mul-le-mul-right, suc-mul, zero-mul, not-suc-le-zero, le-of-suc-le-suc, add-zero}
 use native.Mathlib.Omega.{arith}

@@ -8,14 +8,14 @@ use native.Mathlib.Nat.{mul-one}
 use native.Mathlib.Omega.{arith}
 use lib.Dec.{ltb, leb, eqb}
 use lib.ListN.{length, length-append, length-map}
-use borrow.Author.Tests.{eqb-true, leb-true, le-leb, ltb-true}
+use borrow.Author.Tests.{leb-true, le-leb, ltb-true}
 use Rattle.laws.specs.Cases.{byBool, byOption, none≢some, cond-some, and-l, and-r}
 use Rattle.laws.specs.Lists.{all, any, isNil, nil-map}
 use Rattle.rules.specs.Characters.{isAlnum, isDigit}
 use Rattle.rules.specs.Commands.{Name, Element, place, placeName, sameName, Command, placeCount, valueCount, mult, leading, isSep, Seg, seg, first, consHead, split, Cut, cut, uncut, consCut, cutAt, piece, pieces, isPiece, isCut, placesOf, allPlaces}
 use Rattle.rules.specs.Groups.{join, unitAfter, joiner, isUnit, alternate, readUnits, Group, group, Collected, collected, collectOne, collect, groupsOf, firstArg, fullArg, laterElements, elements, readValue}
 use Rattle.rules.specs.Reading.{Placed, placed, unplaced, readPosition, readNamed, readOfKind, readPlace, readPlaces, kindOf, PlacedBlock, placedBlock, readBlock, blockSize, readBlocks, running, runningBlocks, blockOf, readSegs, readCut, readLetters, read}
-use Rattle.rules.specs.Refusals.{ok, _>>=_, mapR}
+use Rattle.rules.specs.Refusals.{ok, mapR}
 use Rattle.rules.specs.Tokens.{Sep, dash, comma, colon, equals, semi, amp, Lex, word, str, sep, Token, at, wordChars, wordMost, scan, posOf, lexOf}
 use Rattle.rules.specs.Units.{Base, Unit, isIdentifier, readUnit}
 use Rattle.rules.specs.WellFormed.{wellFormed, namesDiffer, wfBlock, wfPlace, wfPieces, short}

@@ -1,8 +1,8 @@
 -- What each pass of the reader can refuse with: one of its numbers, at a place before the text's end. Shown along the definitions, once for any property of number and place.
 use Prim.Native.Nat.{ℕ, zero, suc, _+_, _*_, _<_, _≤_}
-use mathlib.Core.Path.{_≡_, refl, sym}
-use mathlib.Core.Bool.{Bool, true, false, cond, _&&_, _||_, not, Bool·beq}
-use mathlib.Core.List.{List, [], _∷_, _++_, map, reverse}
+use mathlib.Core.Path.{_≡_, refl}
+use mathlib.Core.Bool.{Bool, true, false, cond, _&&_, not, Bool·beq}
+use mathlib.Core.List.{List, [], _∷_, _++_, reverse}
 use mathlib.Core.Option.{Option, none, some}
 use native.Mathlib.Omega.{arith}
 use lib.Dec.{leb, ltb, eqb}
@@ -13,11 +13,11 @@ use Rattle.laws.specs.Keys.{anyOf}
 use Rattle.laws.specs.Lists.{any, isNil}
 use Rattle.rules.specs.Refusals.{Res, ok, bad, _>>=_, mapR, guard}
 use Rattle.rules.specs.Characters.{isWordChar, isEffector, isPermitted}
-use Rattle.rules.specs.Tokens.{Sep, ampamp-, ampamp, amp-, amp, plusplus, dash, comma, colon, equals, semi, sepCode, Lex, word, str, sep, Token, at, posOf, lexOf, State, idle, inWord, inPlus, oneAmp, twoAmp, slash, comment, star, inStr, quote, wordMost, wordToken, strToken, wordTokens, flush, andThen, Step, stay, emit, fresh, after, end, step, next, run, firstOff}
+use Rattle.rules.specs.Tokens.{Sep, ampamp-, ampamp, amp-, amp, plusplus, dash, comma, colon, equals, sepCode, Lex, word, str, sep, Token, at, posOf, lexOf, State, idle, inWord, inPlus, oneAmp, twoAmp, slash, comment, star, inStr, quote, wordMost, wordToken, strToken, wordTokens, flush, andThen, Step, stay, emit, fresh, after, end, step, next, run, firstOff}
 use Rattle.rules.specs.Units.{Radix, rD, Base, plain, baseOf, Unit, num, keyed, identifier, symbolic, text, numeral, limited, orElse, isIdentifier, isSymbolicName, named, withMark, readWord, readUnit}
-use Rattle.rules.specs.Commands.{Name, Element, single, range, place, placeName, sameName, leading, placeCount, valueCount, isSep, first, Seg, seg, consHead, split, Cut, cut, uncut, consCut, cutAt, isCut, piece, pieces, isPiece, Command}
-use Rattle.rules.specs.Groups.{Join, join, Want, unitAfter, joiner, isUnit, joinerOf, alternate, readUnits, Group, group, Collected, collected, collectOne, beginsJ, collect, groupsOf, Arg, arg, consArg, fullArg, sepAt, noMore, incOf, endOf, increment, ends, upper, firstArg, laterArg, later, groupPos, laterElements, elements, readValue}
-use Rattle.rules.specs.Reading.{Placed, placed, unplaced, readPosition, readNamed, readOfKind, readPlace, readPlaces, kindOf, PlacedBlock, placedBlock, blockOf, blockSize, readBlock, readBlocks, running, runningBlocks, readSegs, readCut, readLetters}
+use Rattle.rules.specs.Commands.{Name, Element, range, place, placeName, sameName, leading, placeCount, valueCount, isSep, first, Seg, seg, consHead, split, Cut, cut, uncut, consCut, cutAt, isCut, piece, pieces, isPiece}
+use Rattle.rules.specs.Groups.{Join, join, Want, unitAfter, joiner, isUnit, joinerOf, alternate, readUnits, Group, group, Collected, collected, collectOne, beginsJ, collect, groupsOf, Arg, arg, consArg, fullArg, sepAt, noMore, incOf, endOf, increment, ends, upper, firstArg, laterArg, later, laterElements, elements, readValue}
+use Rattle.rules.specs.Reading.{Placed, placed, unplaced, readPosition, readNamed, readOfKind, readPlace, readPlaces, kindOf, PlacedBlock, placedBlock, blockSize, readBlock, readBlocks, running, runningBlocks, readSegs, readCut, readLetters}
 
 -- ---- a property of every outcome
 

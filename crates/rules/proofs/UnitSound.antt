@@ -11,7 +11,7 @@ use borrow.Author.Tests.{le-leb}
 use Rattle.laws.specs.Cases.{byBool, and-l, and-r, byOption, some-inj, none≢some, cond-some}
 use Rattle.laws.specs.Lists.{any}
 use Rattle.rules.specs.Characters.{capital}
-use Rattle.rules.specs.Refusals.{ok, bad, _>>=_}
+use Rattle.rules.specs.Refusals.{ok, bad}
 use Rattle.rules.specs.Tokens.{wordChars, wordMost}
 use Rattle.rules.specs.Units.{Radix, rD, rH, rO, rB, Base, plain, keys, Unit, num, keyed, identifier, symbolic, text, isDigitOf, isKey, isHeldKey, valueFrom, runOf, atStop, fraction, numeral, baseOf, limited, orElse, isIdentifier, isSymbolicName, named, allowed, prefixNumeral, withMark, readWord}
 use Rattle.rules.specs.WellFormed.{wfUnit, okFraction, isDecimal}

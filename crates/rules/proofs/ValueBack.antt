@@ -14,7 +14,7 @@ use Rattle.laws.specs.Lists.{all, isNil, all-append, eqL-is}
 use Rattle.rules.specs.Commands.{Element, single, range, leading, lastUnit, valueCount}
 use Rattle.rules.specs.Groups.{Join, join, unitAfter, joiner, isJoiner, isUnit, alternate, readUnits, Group, group, begins, Collected, collected, collectOne, collect, arg, fullArg, increment, upper, firstArg, laterArg, later, laterElements, elements, readValue}
 use Rattle.rules.specs.Printing.{sameUnit, sameUnits, unitLex, Link, link, firstUnit, dashLinks, incLinks, tailLinks, isShort, laterLinks, restLinks, linksLex, valueLex}
-use Rattle.rules.specs.Refusals.{ok, _>>=_}
+use Rattle.rules.specs.Refusals.{ok}
 use Rattle.rules.specs.Tokens.{Sep, ampamp-, ampamp, amp-, amp, Lex, Token, at, sepCode}
 use Rattle.rules.specs.Units.{Radix, rD, rH, rO, rB, Base, Unit, num, keyed, identifier, symbolic, text, sameRadix, plain}
 use Rattle.rules.specs.WellFormed.{wfUnit, wfRange, wfElement, wfValue}

@@ -8,14 +8,14 @@ use native.Mathlib.Nat.{le-refl}
 use native.Mathlib.Omega.{arith}
 use lib.Dec.{leb, eqb}
 use lib.ListN.{length, length-append}
-use borrow.Author.Tests.{eqb-true, not-true, eq-eqb}
+use borrow.Author.Tests.{eqb-true, not-true}
 use Rattle.rules.specs.Records.{unitField, fieldBytes}
 use Rattle.laws.specs.Cases.{byBool, byOption, none≢some, cond-some, and-l}
-use Rattle.laws.specs.Lists.{eqL, isNil, eqL-refl}
+use Rattle.laws.specs.Lists.{isNil, eqL-refl}
 use Rattle.rules.specs.Commands.{Element, range, leading, lastUnit, valueCount}
 use Rattle.rules.specs.Groups.{Join, join, Want, unitAfter, joiner, isJoiner, isUnit, joinerOf, alternate, readUnits, Group, group, Collected, collected, collectOne, begins, collect, groupsOf, Arg, arg, consArg, fullArg, noMore, incOf, endOf, increment, ends, upper, firstArg, laterArg, later, laterElements, elements, readValue}
 use Rattle.rules.specs.Printing.{sameUnits, lexText, sepText, render, unitLex, Link, link, firstUnit, dashLinks, incLinks, tailLinks, fullLinks, isShort, laterLinks, restLinks, linksLex, valueLex}
-use Rattle.rules.specs.Refusals.{ok, _>>=_, mapR}
+use Rattle.rules.specs.Refusals.{ok, mapR}
 use Rattle.rules.specs.Tokens.{Sep, ampamp-, ampamp, amp-, amp, plusplus, dash, comma, colon, equals, semi, Lex, word, str, sep, Token, at, sepCode}
 use Rattle.rules.specs.Units.{Radix, Base, Unit, num, readUnit}
 use Rattle.rules.proofs.ResultLaws.{ok-inj, ok≢bad, bind-ok, map-ok}

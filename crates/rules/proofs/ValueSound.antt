@@ -12,7 +12,7 @@ use Rattle.laws.specs.Cases.{byBool, byOption, none≢some, cond-some, and-l, a
 use Rattle.laws.specs.Lists.{all, isNil}
 use Rattle.rules.specs.Commands.{Element, range, leading, lastUnit, valueCount}
 use Rattle.rules.specs.Groups.{Join, join, Want, unitAfter, joiner, isUnit, joinerOf, alternate, readUnits, Group, group, Collected, collected, collectOne, beginsJ, collect, groupsOf, Arg, arg, consArg, fullArg, noMore, incOf, endOf, increment, ends, upper, firstArg, laterArg, later, laterElements, elements, readValue}
-use Rattle.rules.specs.Refusals.{ok, _>>=_, mapR}
+use Rattle.rules.specs.Refusals.{ok, mapR}
 use Rattle.rules.specs.Tokens.{Lex, word, str, sep, Token, at, wordChars, wordMost, amp, sepCode}
 use Rattle.rules.specs.Units.{Radix, rD, rH, rO, rB, Base, plain, size, Unit, num, keyed, identifier, symbolic, text, sameRadix, readUnit, allowed}
 use Rattle.rules.specs.WellFormed.{wfUnit, wfRange, wfElement, wfValue}

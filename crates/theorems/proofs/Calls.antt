@@ -1,7 +1,7 @@
 -- The calls, from the theorems on trees: a call's result is opened step by step, each refusal excluded by its premise.
 use Prim.Native.Nat.{ℕ, _≤_, _<_}
 use mathlib.Core.Path.{_≡_, refl, sym, ap, _∙_, subst}
-use mathlib.Core.Bool.{Bool, true, false}
+use mathlib.Core.Bool.{true}
 use mathlib.Core.List.{List, [], _∷_}
 use native.Mathlib.Omega.{arith}
 use native.Mathlib.Nat.{le-trans}
@@ -9,10 +9,10 @@ use lib.Dec.{leb, ltb}
 use lib.ListN.{length, getD}
 use borrow.Author.Tests.{le-leb, leb-true, lt-leb, lt-ltb, ltb-true, le-ltb}
 use Rattle.laws.specs.Cases.{byBool}
-use Rattle.rules.specs.Refusals.{Res, ok, bad, _>>=_, mapR, guard, mostText, tooLong, noRoom, noSuchOrder}
+use Rattle.rules.specs.Refusals.{Res, ok, bad, mapR, mostText, tooLong, noRoom, noSuchOrder}
 use Rattle.rules.specs.Commands.{Command}
 use Rattle.rules.specs.Reading.{read}
-use Rattle.rules.specs.Records.{encode, bases}
+use Rattle.rules.specs.Records.{encode}
 use Rattle.rules.specs.WellFormed.{wellFormed, recordOf}
 use Rattle.rules.specs.Printing.{print}
 use Rattle.rules.specs.Orders.{orders, orderAt, count}
@@ -26,9 +26,8 @@ use Rattle.rules.proofs.ReadSound.{read-wf}
 use Rattle.rules.proofs.ResultLaws.{ok-inj, ok≢bad, bind-ok, map-ok, guard-ok}
 use Rattle.rules.proofs.RoundTrip.{read-print}
 use Rattle.rules.proofs.SoleOrder.{order-sole}
-use Rattle.grammar.specs.Grammar.{Follows}
 use Rattle.grammar.proofs.Exact.{sound, complete}
-use Rattle.theorems.specs.Demands.{Accepted, Accepts, ReadWithoutRoom, RefusedForRoomAlone, Printable, PrintsGivenRoom, PrintWithoutRoom, PrintThenRead, ReadThenPrint, Past, Ordered, OrdersGivenRoom, OrdersAreListed, Sole, SoleOrderOnBytes}
+use Rattle.theorems.specs.Demands.{Accepted, Accepts, ReadWithoutRoom, RefusedForRoomAlone, Printable, PrintsGivenRoom, PrintWithoutRoom, PrintThenRead, ReadThenPrint, Past, Ordered, OrdersGivenRoom, OrdersAreListed, SoleOrderOnBytes}
 
 -- ---- reading and printing
 

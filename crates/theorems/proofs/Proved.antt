@@ -1,6 +1,6 @@
 -- Each demand has its proof: the theorems of `rules` and `grammar` under the demands' names.
 use Prim.Native.Nat.{_≤_}
-use mathlib.Core.Path.{_≡_, sym, ap, _∙_, subst}
+use mathlib.Core.Path.{sym, ap, _∙_, subst}
 use native.Mathlib.Nat.{le-trans}
 use lib.ListN.{length}
 use Rattle.rules.proofs.AnswersFit.{reading-most, printing-most, ordering-most, counting-most, pressing-most}
@@ -24,7 +24,7 @@ use Rattle.rules.proofs.RecordBound.{record-bound}
 use Rattle.rules.proofs.RefusalRows.{cells-are, scanned-are}
 use Rattle.rules.proofs.RoundTrip.{read-print}
 use Rattle.rules.proofs.SoleOrder.{order-sole}
-use Rattle.rules.proofs.Tables.{classes-are, ranges-are, capitals-are, digits-are, keyed-are, letters-are, letters-only, words-are, units-are, units-listed, separators-are, unit-tags, tags-are, refusal-numbers, limits-are}
+use Rattle.rules.proofs.Tables.{classes-are, ranges-are, capitals-are, digits-are, keyed-are, letters-are, letters-only, words-are, units-are, units-listed, separators-are, tags-are, refusal-numbers, limits-are}
 use Rattle.rules.proofs.WellFormedIsReadable.{well-formed-is-readable}
 use Rattle.rules.specs.Reading.{read}
 use Rattle.rules.specs.Orders.{orderAt}

@@ -2,7 +2,7 @@
 -- First the three demands; then the same over the four calls, on bytes; then the line keeper; last the witnesses, tables from the paper for what reader, grammar and printer share.
 use Prim.Native.Nat.{ℕ, _≤_, _<_}
 use mathlib.Core.Path.{_≡_}
-use mathlib.Core.Bool.{Bool, true, false, _&&_, not}
+use mathlib.Core.Bool.{true, false, _&&_, not}
 use mathlib.Core.List.{List, [], _∷_, _++_, map}
 use mathlib.Core.Option.{some}
 use lib.Dec.{eqb}

@@ -4,9 +4,6 @@ use Rattle.chars.proofs.ClassLaws.{entry, high}
 use Rattle.chars.proofs.class.Statement.{statement}
 use Rattle.chars.proofs.class.Tie as tie
 
-element-copy-out-result : tie.Need-element-copy-out-result
-element-copy-out-result c = search needs
-
 returns : tie.Need-returns
 returns c = rw (c .before .before .pre) (entry (c .before .before .args .b) (c .before .if1 .taken))
 
@@ -14,4 +11,4 @@ returns-2 : tie.Need-returns-2
 returns-2 c = high _ (c .if1 .left)
 
 pub class-spec : {M : Type 1} → statement M
-class-spec = tie.close (tie.spec element-copy-out-result returns returns-2)
+class-spec = tie.close (tie.spec (λ c. search needs) returns returns-2)

@@ -16,12 +16,6 @@ use Prim.Native.Nat.{ℕ}
 use Rattle.command_fields.proofs.put_block.Statement.{statement}
 use Rattle.command_fields.proofs.put_block.Tie as tie
 
-is-named-requires : tie.Need-is-named-requires
-is-named-requires c κs = search needs
-
-kind-letter-requires : tie.Need-kind-letter-requires
-kind-letter-requires c κs = search needs
-
 put-byte-requires : tie.Need-put-byte-requires
 put-byte-requires c κs = let a = c .before .before .before .before .before .before .before .args in let ts = now (a .toks) in let cs = now (a .contents) in let ls = now (a .bases) in let old = now (a .out) in block-room ts cs ls (a .first) (c .before .before .is-named .ensures) (length old) (c .before .before .before .before .before .before .before .pre)
 
@@ -35,9 +29,6 @@ sub-put-places c = wrote-inside (fieldBytes (field 2 (cond (c .before .before .b
 part-put-places-start : tie.Need-part-put-places-start
 part-put-places-start c = omega (arith, wrote-inside (fieldBytes (field 2 (cond (c .before .before .before .before .before .is-named .result) (byte "N") (byte "P") ∷ []))) (now (c .before .before .before .before .before .before .before .before .before .before .args .out)) (wrote (c .before .before)))
 
-part-put-places-end : tie.Need-part-put-places-end
-part-put-places-end c = search needs
-
 put-places-requires : tie.Need-put-places-requires
 put-places-requires c κs = let a = c .before .before .before .before .before .before .before .before .before .before .before .args in let ts = now (a .toks) in let cs = now (a .contents) in let ls = now (a .bases) in let old = now (a .out) in block-places ts cs ls (a .first) (c .before .before .before .before .before .before .is-named .ensures) old (wrote (c .before .before .before)) (c .before .before .before .before .before .before .before .before .before .before .before .pre)
 
@@ -48,9 +39,6 @@ put c = let a = c .before .before .before .before .before .before .before .befor
 add-t13 : tie.Need-add-t13
 add-t13 c = let a = c .before .before .before .before .before .before .before .before .before .before .before .before .before .before .before .args in let ts = now (a .toks) in let cs = now (a .contents) in let ls = now (a .bases) in let old = now (a .out) in let w = c .before .before .before .before .before .before .before .before .before .before .before .before .before .before .before .pre in omega (arith, (put c) (w .end) (w .b) (w .is) .1 .0, w .fits, c .before .before .before .before .before .before .before .before .before .before .before .before .before .before .before .good .0 .0)
 
-same-length : tie.Need-same-length
-same-length c = search needs
-
 returns : tie.Need-returns
 returns c = put c
 
@@ -58,13 +46,13 @@ pub put-block-spec : {M : Type 1} → statement M
 put-block-spec =
     tie.close
     (tie.spec
-    is-named-requires
-    kind-letter-requires
+    (λ c κs. search needs)
+    (λ c κs. search needs)
     put-byte-requires
     sub-put-places
     part-put-places-start
-    part-put-places-end
+    (λ c. search needs)
     put-places-requires
     add-t13
-    same-length
+    (λ c. search needs)
     returns)

@@ -23,20 +23,11 @@ inside c = found-inside (now (c .before .before .before .before .before .before 
 loop-holds : tie.Need-loop-holds Inv-loop μ-loop
 loop-holds c = let a = c .before .before .before .before .args in blocking-none (now (a .toks)) (now (a .contents)) (now (a .bases)) (a .from) (now (a .out))
 
-find-requires : tie.Need-find-requires Inv-loop μ-loop
-find-requires c κs = search needs
-
 sub-put-block : tie.Need-sub-put-block Inv-loop μ-loop
 sub-put-block c = let a = c .before .before .before .before .before .before .before .args in let ts = now (a .toks) in let cs = now (a .contents) in let ls = now (a .bases) in let old = now (a .out) in let l = c .before .before .loop in omega (arith, blocking-room ts cs ls (a .from) old (l .i) (l .n) (l .k) (l .out) (l .inv) (c .before .before .before .before .before .before .before .pre) (c .before .loop-test .taken) (c .find .ensures), blocking-long ts cs ls (a .from) old (l .i) (l .n) (l .k) (l .out) (l .inv) (c .before .before .before .before .before .before .before .pre))
 
 part-put-block-start : tie.Need-part-put-block-start Inv-loop μ-loop
 part-put-block-start c = let a = c .before .before .before .before .before .before .before .args in let ts = now (a .toks) in let cs = now (a .contents) in let ls = now (a .bases) in let old = now (a .out) in let l = c .before .before .loop in omega (arith, blocking-room ts cs ls (a .from) old (l .i) (l .n) (l .k) (l .out) (l .inv) (c .before .before .before .before .before .before .before .pre) (c .before .loop-test .taken) (c .find .ensures), blocking-long ts cs ls (a .from) old (l .i) (l .n) (l .k) (l .out) (l .inv) (c .before .before .before .before .before .before .before .pre))
-
-part-put-block-end : tie.Need-part-put-block-end Inv-loop μ-loop
-part-put-block-end c = search needs
-
-mul-put-block : tie.Need-mul-put-block Inv-loop μ-loop
-mul-put-block c = search needs
 
 sub-put-block-2 : tie.Need-sub-put-block-2 Inv-loop μ-loop
 sub-put-block-2 c = omega (arith, found-past (now (c .before .before .before .before .before .before .before .before .args .toks)) (c .before .before .before .loop .i) 7 (c .before .find .ensures))
@@ -75,11 +66,11 @@ put-blocks-spec =
     Inv-loop
     μ-loop
     loop-holds
-    find-requires
+    (λ c κs. search needs)
     sub-put-block
     part-put-block-start
-    part-put-block-end
-    mul-put-block
+    (λ c. search needs)
+    (λ c. search needs)
     sub-put-block-2
     part-put-block-start-2
     part-put-block-end-2

@@ -15,9 +15,6 @@ use Prim.Native.Nat.{_+_, _<_}
 use Rattle.command_fields.proofs.put_name.Statement.{statement}
 use Rattle.command_fields.proofs.put_name.Tie as tie
 
-find-requires : tie.Need-find-requires
-find-requires c κs = search needs
-
 -- the `=` is there
 inside : (c : tie.After-find) → c .find .result < length (now (c .before .before .before .before .args .toks))
 inside c = let a = c .before .before .before .before .args in let ts = now (a .toks) in let cs = now (a .contents) in let l = a .base in let old = now (a .out) in name-inside ts cs l (c .find .result) (c .find .ensures) (length old) (c .before .before .before .before .pre)
@@ -38,9 +35,6 @@ sub-put-value c = let a = c .before .before .before .before .before .before .bef
 part-put-value-start : tie.Need-part-put-value-start
 part-put-value-start c = let a = c .before .before .before .before .before .before .before .before .before .args in let ts = now (a .toks) in let cs = now (a .contents) in let l = a .base in let old = now (a .out) in omega (arith, wrote-inside (wordBytes 4 (wordsIn true cs (take (c .before .before .before .before .before .find .result) ts))) old (wrote (c .before .before)))
 
-part-put-value-end : tie.Need-part-put-value-end
-part-put-value-end c = search needs
-
 add-put-value : tie.Need-add-put-value
 add-put-value c = omega (arith, inside (c .before .before .before .before .before .before))
 
@@ -53,9 +47,6 @@ sub-put-value-2 c = omega (arith, inside (c .before .before .before .before .bef
 part-put-value-start-2 : tie.Need-part-put-value-start-2
 part-put-value-start-2 c = omega (arith, inside (c .before .before .before .before .before .before))
 
-part-put-value-end-2 : tie.Need-part-put-value-end-2
-part-put-value-end-2 c = search needs
-
 put-value-requires : tie.Need-put-value-requires
 put-value-requires c κs = let a = c .before .before .before .before .before .before .before .before .before .before .before .args in let ts = now (a .toks) in let cs = now (a .contents) in let l = a .base in let old = now (a .out) in rw (part-from ts (c .before .before .before .before .before .before .before .find .result + 1)) (name-value ts cs l (c .before .before .before .before .before .before .before .find .result) (c .before .before .before .before .before .before .before .find .ensures) old (c .before .before .before .before .before .before .before .before .before .before .before .pre) (wrote (c .before .before .before .before)))
 
@@ -66,9 +57,6 @@ put c = let a = c .before .before .before .before .before .before .before .befor
 add-result : tie.Need-add-result
 add-result c = let a = c .before .before .before .before .before .before .before .before .before .before .before .before .before .before .args in let ts = now (a .toks) in let cs = now (a .contents) in let l = a .base in let old = now (a .out) in let w = c .before .before .before .before .before .before .before .before .before .before .before .before .before .before .pre in omega (arith, (put c) (w .base) (w .names) (w .end) (w .x) (w .own) (w .is) .0, w .fits, c .before .before .before .before .before .before .before .before .before .before .before .before .before .before .good .0 .0)
 
-same-length : tie.Need-same-length
-same-length c = search needs
-
 returns : tie.Need-returns
 returns c = put c
 
@@ -76,18 +64,18 @@ pub put-name-spec : {M : Type 1} → statement M
 put-name-spec =
     tie.close
     (tie.spec
-    find-requires
+    (λ c κs. search needs)
     slice-aggregate-put-pieces
     put-pieces-requires
     sub-put-value
     part-put-value-start
-    part-put-value-end
+    (λ c. search needs)
     add-put-value
     mul-put-value
     sub-put-value-2
     part-put-value-start-2
-    part-put-value-end-2
+    (λ c. search needs)
     put-value-requires
     add-result
-    same-length
+    (λ c. search needs)
     returns)

@@ -24,26 +24,11 @@ sub-put-token c = let a = c .before .before .before .before .before .args in let
 part-put-token-start : tie.Need-part-put-token-start Inv-loop μ-loop
 part-put-token-start c = let a = c .before .before .before .before .before .args in let l = c .before .loop in omega (arith, piecing-long (a .tag) (now (a .contents)) (now (a .toks)) (now (a .out)) (l .i) (l .k) (l .out) (l .inv) (c .before .before .before .before .before .pre), piecing-room (a .tag) (now (a .contents)) (now (a .toks)) (now (a .out)) (l .i) (l .k) (l .out) (l .inv) (c .loop-test .taken) (c .before .before .before .before .before .pre))
 
-part-put-token-end : tie.Need-part-put-token-end Inv-loop μ-loop
-part-put-token-end c = search needs
-
-mul-put-token : tie.Need-mul-put-token Inv-loop μ-loop
-mul-put-token c = search needs
-
-shared-slice-read-put-token : tie.Need-shared-slice-read-put-token Inv-loop μ-loop
-shared-slice-read-put-token c = search needs
-
 put-token-requires : tie.Need-put-token-requires Inv-loop μ-loop
 put-token-requires c κs = let a = c .before .before .before .before .before .before .before .args in let l = c .before .before .before .loop in omega (arith, piecing-long (a .tag) (now (a .contents)) (now (a .toks)) (now (a .out)) (l .i) (l .k) (l .out) (l .inv) (c .before .before .before .before .before .before .before .pre), piecing-room (a .tag) (now (a .contents)) (now (a .toks)) (now (a .out)) (l .i) (l .k) (l .out) (l .inv) (c .before .before .loop-test .taken) (c .before .before .before .before .before .before .before .pre), length-part (l .out) (l .k))
 
 add-k : tie.Need-add-k Inv-loop μ-loop
 add-k c = let a = c .before .before .before .before .before .before .before .before .before .before .args in let l = c .before .before .before .before .before .before .loop in omega (arith, piecing-room (a .tag) (now (a .contents)) (now (a .toks)) (now (a .out)) (l .i) (l .k) (l .out) (l .inv) (c .before .before .before .before .before .loop-test .taken) (c .before .before .before .before .before .before .before .before .before .before .pre), c .before .before .put-token .ensures .0, c .before .before .before .before .before .before .before .before .before .before .good .0 .0)
-
-add-i : tie.Need-add-i Inv-loop μ-loop
-add-i c = search needs
-
-loop-less : tie.Need-loop-less Inv-loop μ-loop
-loop-less c = search needs
 
 loop-again : tie.Need-loop-again Inv-loop μ-loop
 loop-again c = let a = c .before .before .before .before .before .before .before .before .before .before .args in let l = c .before .before .before .before .before .before .loop in piecing-more (a .tag) (now (a .contents)) (now (a .toks)) (now (a .out)) (l .i) (l .k) (l .out) (l .inv) (c .before .before .before .before .before .loop-test .taken) (c .before .before .put-token .ensures .0) (c .before .before .put-token .ensures .1)
@@ -63,13 +48,13 @@ put-pieces-spec =
     loop-holds
     sub-put-token
     part-put-token-start
-    part-put-token-end
-    mul-put-token
-    shared-slice-read-put-token
+    (λ c. search needs)
+    (λ c. search needs)
+    (λ c. search needs)
     put-token-requires
     add-k
-    add-i
-    loop-less
+    (λ c. search needs)
+    (λ c. search needs)
     loop-again
     same-length
     returns)

@@ -10,9 +10,6 @@ use lib.ListN.{length}
 use Rattle.command_fields.proofs.put_place.Statement.{statement}
 use Rattle.command_fields.proofs.put_place.Tie as tie
 
-base-requires : tie.Need-base-requires
-base-requires c κs = search needs
-
 put-byte-requires : tie.Need-put-byte-requires
 put-byte-requires c κs = let a = c .before .before .before .before .before .before .args in let ts = now (a .toks) in let cs = now (a .contents) in let ls = now (a .bases) in let old = now (a .out) in place-room ts cs ls (a .named) (a .n) (c .before .base .result) (c .before .base .ensures) (length old) (c .before .before .before .before .before .before .pre)
 
@@ -21,9 +18,6 @@ sub-put-name c = wrote-inside (fieldBytes (field 3 (c .before .before .before .b
 
 part-put-name-start : tie.Need-part-put-name-start
 part-put-name-start c = omega (arith, wrote-inside (fieldBytes (field 3 (c .before .before .before .before .before .base .result ∷ []))) (now (c .before .before .before .before .before .before .before .before .before .before .args .out)) (c .before .before .before .put-byte .ensures))
-
-part-put-name-end : tie.Need-part-put-name-end
-part-put-name-end c = search needs
 
 put-name-requires : tie.Need-put-name-requires
 put-name-requires c κs = let a = c .before .before .before .before .before .before .before .before .before .before .before .args in let ts = now (a .toks) in let cs = now (a .contents) in let ls = now (a .bases) in let old = now (a .out) in named-fits ts cs ls (a .named) (a .n) (c .before .before .before .before .before .before .base .result) (c .before .before .before .before .before .before .base .ensures) old (c .before .before .before .before .put-byte .ensures) (c .before .if1 .taken) (c .before .before .before .before .before .before .before .before .before .before .before .pre)
@@ -35,9 +29,6 @@ by-name c = let a = c .before .before .before .before .before .before .before .b
 add-result : tie.Need-add-result
 add-result c = let a = c .before .before .before .before .before .before .before .before .before .before .before .before .before .before .args in let ts = now (a .toks) in let cs = now (a .contents) in let ls = now (a .bases) in let old = now (a .out) in let w = c .before .before .before .before .before .before .before .before .before .before .before .before .before .before .pre in omega (arith, (by-name c) (w .names) (w .end) (w .x) (w .is) .0, w .fits, c .before .before .before .before .before .before .before .before .before .before .before .before .before .before .good .0 .0)
 
-same-length : tie.Need-same-length
-same-length c = search needs
-
 returns : tie.Need-returns
 returns c = by-name c
 
@@ -46,9 +37,6 @@ sub-put-value c = wrote-inside (fieldBytes (field 3 (c .before .before .before .
 
 part-put-value-start : tie.Need-part-put-value-start
 part-put-value-start c = omega (arith, wrote-inside (fieldBytes (field 3 (c .before .before .before .before .before .before .base .result ∷ []))) (now (c .before .before .before .before .before .before .before .before .before .before .before .args .out)) (c .before .before .before .before .put-byte .ensures))
-
-part-put-value-end : tie.Need-part-put-value-end
-part-put-value-end c = search needs
 
 put-value-requires : tie.Need-put-value-requires
 put-value-requires c κs = let a = c .before .before .before .before .before .before .before .before .before .before .before .before .args in let ts = now (a .toks) in let cs = now (a .contents) in let ls = now (a .bases) in let old = now (a .out) in position-fits ts cs ls (a .named) (a .n) (c .before .before .before .before .before .before .before .base .result) (c .before .before .before .before .before .before .before .base .ensures) old (c .before .before .before .before .before .put-byte .ensures) (c .before .before .if1 .left) (c .before .if2 .taken) (c .before .before .before .before .before .before .before .before .before .before .before .before .pre)
@@ -60,14 +48,8 @@ by-position c = let a = c .before .before .before .before .before .before .befor
 add-result-2 : tie.Need-add-result-2
 add-result-2 c = let a = c .before .before .before .before .before .before .before .before .before .before .before .before .before .before .before .args in let ts = now (a .toks) in let cs = now (a .contents) in let ls = now (a .bases) in let old = now (a .out) in let w = c .before .before .before .before .before .before .before .before .before .before .before .before .before .before .before .pre in omega (arith, (by-position c) (w .names) (w .end) (w .x) (w .is) .0, w .fits, c .before .before .before .before .before .before .before .before .before .before .before .before .before .before .before .good .0 .0)
 
-same-length-2 : tie.Need-same-length-2
-same-length-2 c = search needs
-
 returns-2 : tie.Need-returns-2
 returns-2 c = by-position c
-
-same-length-3 : tie.Need-same-length-3
-same-length-3 c = search needs
 
 returns-3 : tie.Need-returns-3
 returns-3 c = let a = c .before .before .before .before .before .before .before .before .before .before .before .args in let ts = now (a .toks) in let cs = now (a .contents) in let ls = now (a .bases) in let old = now (a .out) in omitted-put ts cs ls (a .named) (a .n) (c .before .before .before .before .before .before .base .result) (c .before .before .before .before .before .before .base .ensures) old (c .before .before .before .before .put-byte .ensures) (c .before .if1 .left) (c .if2 .left)
@@ -76,21 +58,21 @@ pub put-place-spec : {M : Type 1} → statement M
 put-place-spec =
     tie.close
     (tie.spec
-    base-requires
+    (λ c κs. search needs)
     put-byte-requires
     sub-put-name
     part-put-name-start
-    part-put-name-end
+    (λ c. search needs)
     put-name-requires
     add-result
-    same-length
+    (λ c. search needs)
     returns
     sub-put-value
     part-put-value-start
-    part-put-value-end
+    (λ c. search needs)
     put-value-requires
     add-result-2
-    same-length-2
+    (λ c. search needs)
     returns-2
-    same-length-3
+    (λ c. search needs)
     returns-3)

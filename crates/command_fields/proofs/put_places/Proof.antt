@@ -23,20 +23,11 @@ inside c = found-inside (now (c .before .before .before .before .before .before 
 loop-holds : tie.Need-loop-holds Inv-loop μ-loop
 loop-holds c = let a = c .before .before .before .before .args in placing-none (now (a .toks)) (now (a .contents)) (now (a .bases)) (a .named) (a .first) (now (a .out))
 
-find-requires : tie.Need-find-requires Inv-loop μ-loop
-find-requires c κs = search needs
-
 sub-put-place : tie.Need-sub-put-place Inv-loop μ-loop
 sub-put-place c = let a = c .before .before .before .before .before .before .before .args in let ts = now (a .toks) in let cs = now (a .contents) in let ls = now (a .bases) in let old = now (a .out) in let l = c .before .before .loop in omega (arith, placing-room ts cs ls (a .named) (a .first) old (l .i) (l .n) (l .k) (l .out) (l .inv) (c .before .before .before .before .before .before .before .pre) (c .before .loop-test .taken) (c .find .ensures), placing-long ts cs ls (a .named) (a .first) old (l .i) (l .n) (l .k) (l .out) (l .inv) (c .before .before .before .before .before .before .before .pre))
 
 part-put-place-start : tie.Need-part-put-place-start Inv-loop μ-loop
 part-put-place-start c = let a = c .before .before .before .before .before .before .before .args in let ts = now (a .toks) in let cs = now (a .contents) in let ls = now (a .bases) in let old = now (a .out) in let l = c .before .before .loop in omega (arith, placing-room ts cs ls (a .named) (a .first) old (l .i) (l .n) (l .k) (l .out) (l .inv) (c .before .before .before .before .before .before .before .pre) (c .before .loop-test .taken) (c .find .ensures), placing-long ts cs ls (a .named) (a .first) old (l .i) (l .n) (l .k) (l .out) (l .inv) (c .before .before .before .before .before .before .before .pre))
-
-part-put-place-end : tie.Need-part-put-place-end Inv-loop μ-loop
-part-put-place-end c = search needs
-
-mul-put-place : tie.Need-mul-put-place Inv-loop μ-loop
-mul-put-place c = search needs
 
 sub-put-place-2 : tie.Need-sub-put-place-2 Inv-loop μ-loop
 sub-put-place-2 c = omega (arith, found-past (now (c .before .before .before .before .before .before .before .before .args .toks)) (c .before .before .before .loop .i) 6 (c .before .find .ensures))
@@ -78,11 +69,11 @@ put-places-spec =
     Inv-loop
     μ-loop
     loop-holds
-    find-requires
+    (λ c κs. search needs)
     sub-put-place
     part-put-place-start
-    part-put-place-end
-    mul-put-place
+    (λ c. search needs)
+    (λ c. search needs)
     sub-put-place-2
     part-put-place-start-2
     part-put-place-end-2

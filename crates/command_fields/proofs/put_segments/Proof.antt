@@ -15,9 +15,6 @@ use Prim.Native.Nat.{_≤_}
 use Rattle.command_fields.proofs.put_segments.Statement.{statement}
 use Rattle.command_fields.proofs.put_segments.Tie as tie
 
-find-requires : tie.Need-find-requires
-find-requires c κs = search needs
-
 -- the first `:` stands inside the table, or at its end
 inside : (c : tie.After-find) → c .find .result ≤ length (now (c .before .before .before .before .before .args .toks))
 inside c = found-inside (now (c .before .before .before .before .before .args .toks)) 0 7 (c .find .ensures) (omega arith)
@@ -38,9 +35,6 @@ sub-put-blocks c = let a = c .before .before .before .before .before .before .be
 part-put-blocks-start : tie.Need-part-put-blocks-start
 part-put-blocks-start c = let a = c .before .before .before .before .before .before .before .before .before .before .args in let ts = now (a .toks) in let cs = now (a .contents) in let ls = now (a .bases) in let old = now (a .out) in omega (arith, wrote-inside (wordBytes 1 (wordsIn true cs (take (c .before .before .before .before .before .find .result) ts))) old (wrote (c .before .before)))
 
-part-put-blocks-end : tie.Need-part-put-blocks-end
-part-put-blocks-end c = search needs
-
 add-put-blocks : tie.Need-add-put-blocks
 add-put-blocks c = omega (arith, inside (c .before .before .before .before .before .before), c .before .before .before .before .before .before .before .before .before .before .before .good .1 .0 .1)
 
@@ -54,9 +48,6 @@ put c = let a = c .before .before .before .before .before .before .before .befor
 add-result : tie.Need-add-result
 add-result c = let a = c .before .before .before .before .before .before .before .before .before .before .before .before .before .before .args in let ts = now (a .toks) in let cs = now (a .contents) in let ls = now (a .bases) in let old = now (a .out) in let w = c .before .before .before .before .before .before .before .before .before .before .before .before .before .before .pre in omega (arith, (put c) (w .end) (w .c) (w .is) .0, w .fits, c .before .before .before .before .before .before .before .before .before .before .before .before .before .before .good .0 .0)
 
-same-length : tie.Need-same-length
-same-length c = search needs
-
 returns : tie.Need-returns
 returns c = put c
 
@@ -64,14 +55,14 @@ pub put-segments-spec : {M : Type 1} → statement M
 put-segments-spec =
     tie.close
     (tie.spec
-    find-requires
+    (λ c κs. search needs)
     slice-aggregate-put-pieces
     put-pieces-requires
     sub-put-blocks
     part-put-blocks-start
-    part-put-blocks-end
+    (λ c. search needs)
     add-put-blocks
     put-blocks-requires
     add-result
-    same-length
+    (λ c. search needs)
     returns)

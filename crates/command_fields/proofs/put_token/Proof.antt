@@ -13,12 +13,6 @@ use Prim.Native.Nat.{_+_}
 use Rattle.command_fields.proofs.put_token.Statement.{statement}
 use Rattle.command_fields.proofs.put_token.Tie as tie
 
-start-requires : tie.Need-start-requires
-start-requires c κs = search needs
-
-end-requires : tie.Need-end-requires
-end-requires c κs = search needs
-
 -- the part of the contents that is cut out
 cut : (c : tie.After-end) → Cuts (now (c .before .before .before .before .args .contents)) (c .before .before .before .before .args .t) (c .before .start .result) (c .end .result)
 cut c = cuts (now (c .before .before .before .before .args .contents)) (c .before .before .before .before .args .t) (c .before .start .ensures) (c .end .ensures)
@@ -35,9 +29,6 @@ part-put-field-end c = omega (arith, cut (c .before))
 put-field-requires : tie.Need-put-field-requires
 put-field-requires c κs = let e = cut (c .before .before) in let z = ap length (e .is) in (omega arith, omega (arith, c .before .before .before .before .before .before .pre))
 
-same-length : tie.Need-same-length
-same-length c = search needs
-
 returns : tie.Need-returns
 returns c = let a = c .before .before .before .before .before .before .before .before .before .args in let z = (cut (c .before .before .before .before .before)) .is in let e = c .before .before .put-field .ensures in (e .0 ∙ ap (λ (w : List ℕ). 3 + length w) z, e .1 ∙ ap (λ (w : List ℕ). over (fieldBytes (field (a .tag) w)) (now (a .out))) z)
 
@@ -45,11 +36,11 @@ pub put-token-spec : {M : Type 1} → statement M
 put-token-spec =
     tie.close
     (tie.spec
-    start-requires
-    end-requires
+    (λ c κs. search needs)
+    (λ c κs. search needs)
     sub-put-field
     part-put-field-start
     part-put-field-end
     put-field-requires
-    same-length
+    (λ c. search needs)
     returns)

@@ -15,38 +15,20 @@ abbrev μ-loop : tie.MeasureT-loop
 start-requires : tie.Need-start-requires Inv-loop μ-loop
 start-requires c κs = tt
 
-loop-holds : tie.Need-loop-holds Inv-loop μ-loop
-loop-holds c = search needs
-
 next-line-requires : tie.Need-next-line-requires Inv-loop μ-loop
 next-line-requires c κs = tt
-
-enum-told : tie.Need-enum-told Inv-loop μ-loop
-enum-told c = search needs
 
 end-requires : tie.Need-end-requires Inv-loop μ-loop
 end-requires c κs = tt
 
-same-length : tie.Need-same-length Inv-loop μ-loop
-same-length c = search needs
-
 returns : tie.Need-returns Inv-loop μ-loop
 returns c = tt
-
-enum-told-2 : tie.Need-enum-told-2 Inv-loop μ-loop
-enum-told-2 c = search needs
 
 unread-requires : tie.Need-unread-requires Inv-loop μ-loop
 unread-requires c κs = tt
 
-same-length-2 : tie.Need-same-length-2 Inv-loop μ-loop
-same-length-2 c = search needs
-
 returns-2 : tie.Need-returns-2 Inv-loop μ-loop
 returns-2 c = tt
-
-enum-known-kept : tie.Need-enum-known-kept Inv-loop μ-loop
-enum-known-kept c = search needs
 
 front-requires : tie.Need-front-requires Inv-loop μ-loop
 front-requires c κs = tt
@@ -60,26 +42,11 @@ is-failure-requires c κs = tt
 unwritten-requires : tie.Need-unwritten-requires Inv-loop μ-loop
 unwritten-requires c κs = tt
 
-same-length-3 : tie.Need-same-length-3 Inv-loop μ-loop
-same-length-3 c = search needs
-
 returns-3 : tie.Need-returns-3 Inv-loop μ-loop
 returns-3 c = tt
 
 worse-requires : tie.Need-worse-requires Inv-loop μ-loop
 worse-requires c κs = tt
-
-sub-turns : tie.Need-sub-turns Inv-loop μ-loop
-sub-turns c = search needs
-
-loop-less : tie.Need-loop-less Inv-loop μ-loop
-loop-less c = search needs
-
-loop-again : tie.Need-loop-again Inv-loop μ-loop
-loop-again c = search needs
-
-same-length-4 : tie.Need-same-length-4 Inv-loop μ-loop
-same-length-4 c = search needs
 
 returns-4 : tie.Need-returns-4 Inv-loop μ-loop
 returns-4 c = tt
@@ -91,26 +58,26 @@ serve-spec =
     Inv-loop
     μ-loop
     start-requires
-    loop-holds
+    (λ c. search needs)
     next-line-requires
-    enum-told
+    (λ c. search needs)
     end-requires
-    same-length
+    (λ c. search needs)
     returns
-    enum-told-2
+    (λ c. search needs)
     unread-requires
-    same-length-2
+    (λ c. search needs)
     returns-2
-    enum-known-kept
+    (λ c. search needs)
     front-requires
     serve-requires
     is-failure-requires
     unwritten-requires
-    same-length-3
+    (λ c. search needs)
     returns-3
     worse-requires
-    sub-turns
-    loop-less
-    loop-again
-    same-length-4
+    (λ c. search needs)
+    (λ c. search needs)
+    (λ c. search needs)
+    (λ c. search needs)
     returns-4)

@@ -11,15 +11,6 @@ use lib.Seq.{take-all}
 use Rattle.console_figures.proofs.front.Statement.{statement}
 use Rattle.console_figures.proofs.front.Tie as tie
 
-sub-result : tie.Need-sub-result
-sub-result c = search needs
-
-part-result-start : tie.Need-part-result-start
-part-result-start c = search needs
-
-part-result-end : tie.Need-part-result-end
-part-result-end c = search needs
-
 returns : tie.Need-returns
 returns c = let a = c .before .before .args in ap (λ (k : ℕ). take k (now (a .bytes))) (sub-zero (a .n))
 
@@ -27,4 +18,4 @@ returns-2 : tie.Need-returns-2
 returns-2 c = let a = c .before .args in sym (take-all (a .n) (now (a .bytes)) (omega arith))
 
 pub front-spec : {M : Type 1} → statement M
-front-spec = tie.close (tie.spec sub-result part-result-start part-result-end returns returns-2)
+front-spec = tie.close (tie.spec (λ c. search needs) (λ c. search needs) (λ c. search needs) returns returns-2)

@@ -12,56 +12,23 @@ Inv-loop block₀ line₀ rest₀ long₀ turns₀ block line rest long turns = 
 abbrev μ-loop : tie.MeasureT-loop
 μ-loop block₀ line₀ rest₀ long₀ turns₀ block line rest long turns = turns
 
-loop-holds : tie.Need-loop-holds Inv-loop μ-loop
-loop-holds c = search needs
-
 filled-requires : tie.Need-filled-requires Inv-loop μ-loop
 filled-requires c κs = tt
 
 last-requires : tie.Need-last-requires Inv-loop μ-loop
 last-requires c κs = tt
 
-same-length : tie.Need-same-length Inv-loop μ-loop
-same-length c = search needs
-
 returns : tie.Need-returns Inv-loop μ-loop
 returns c = tt
-
-line-end-requires : tie.Need-line-end-requires Inv-loop μ-loop
-line-end-requires c κs = search needs
-
-keep-requires : tie.Need-keep-requires Inv-loop μ-loop
-keep-requires c κs = search needs
-
-sub-sum : tie.Need-sub-sum Inv-loop μ-loop
-sub-sum c = search needs
 
 sum-requires : tie.Need-sum-requires Inv-loop μ-loop
 sum-requires c κs = tt
 
-add-rest : tie.Need-add-rest Inv-loop μ-loop
-add-rest c = search needs
-
 served-requires : tie.Need-served-requires Inv-loop μ-loop
 served-requires c κs = tt
 
-same-length-2 : tie.Need-same-length-2 Inv-loop μ-loop
-same-length-2 c = search needs
-
 returns-2 : tie.Need-returns-2 Inv-loop μ-loop
 returns-2 c = tt
-
-sub-turns : tie.Need-sub-turns Inv-loop μ-loop
-sub-turns c = search needs
-
-loop-less : tie.Need-loop-less Inv-loop μ-loop
-loop-less c = search needs
-
-loop-again : tie.Need-loop-again Inv-loop μ-loop
-loop-again c = search needs
-
-same-length-3 : tie.Need-same-length-3 Inv-loop μ-loop
-same-length-3 c = search needs
 
 returns-3 : tie.Need-returns-3 Inv-loop μ-loop
 returns-3 c = tt
@@ -72,21 +39,21 @@ next-line-spec =
     (tie.spec
     Inv-loop
     μ-loop
-    loop-holds
+    (λ c. search needs)
     filled-requires
     last-requires
-    same-length
+    (λ c. search needs)
     returns
-    line-end-requires
-    keep-requires
-    sub-sum
+    (λ c κs. search needs)
+    (λ c κs. search needs)
+    (λ c. search needs)
     sum-requires
-    add-rest
+    (λ c. search needs)
     served-requires
-    same-length-2
+    (λ c. search needs)
     returns-2
-    sub-turns
-    loop-less
-    loop-again
-    same-length-3
+    (λ c. search needs)
+    (λ c. search needs)
+    (λ c. search needs)
+    (λ c. search needs)
     returns-3)

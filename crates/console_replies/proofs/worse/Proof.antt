@@ -6,12 +6,6 @@ use Rattle.console_replies.specs.Outcomes.{told}
 use Rattle.console_replies.proofs.worse.Statement.{statement}
 use Rattle.console_replies.proofs.worse.Tie as tie
 
-digit-requires : tie.Need-digit-requires
-digit-requires c κs = search needs
-
-digit-requires-2 : tie.Need-digit-requires-2
-digit-requires-2 c κs = search needs
-
 returns : tie.Need-returns
 returns c = let a = c .before .before .before .args in rw (lt-ltb (told (a .past)) (told (a .more)) (omega (arith, c .before .before .digit .ensures, c .before .digit2 .ensures, c .if1 .taken)))
 
@@ -19,4 +13,4 @@ returns-2 : tie.Need-returns-2
 returns-2 c = let a = c .before .before .before .args in rw (le-ltb (told (a .past)) (told (a .more)) (omega (arith, c .before .before .digit .ensures, c .before .digit2 .ensures, c .if1 .left)))
 
 pub worse-spec : {M : Type 1} → statement M
-worse-spec = tie.close (tie.spec digit-requires digit-requires-2 returns returns-2)
+worse-spec = tie.close (tie.spec (λ c κs. search needs) (λ c κs. search needs) returns returns-2)

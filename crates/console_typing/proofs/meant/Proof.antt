@@ -3,21 +3,6 @@ use borrow.Author.Needs.{needs}
 use Rattle.console_typing.proofs.meant.Statement.{statement}
 use Rattle.console_typing.proofs.meant.Tie as tie
 
-enum-told : tie.Need-enum-told
-enum-told c = search needs
-
-typed-requires : tie.Need-typed-requires
-typed-requires c κs = search needs
-
-enum-told-2 : tie.Need-enum-told-2
-enum-told-2 c = search needs
-
-enum-told-3 : tie.Need-enum-told-3
-enum-told-3 c = search needs
-
-enum-told-4 : tie.Need-enum-told-4
-enum-told-4 c = search needs
-
 returns : tie.Need-returns
 returns c = rw (c .before .enum-told .given .1) (c .typed .ensures)
 
@@ -34,11 +19,11 @@ pub meant-spec : {M : Type 1} → statement M
 meant-spec =
     tie.close
     (tie.spec
-    enum-told
-    typed-requires
-    enum-told-2
-    enum-told-3
-    enum-told-4
+    (λ c. search needs)
+    (λ c κs. search needs)
+    (λ c. search needs)
+    (λ c. search needs)
+    (λ c. search needs)
     returns
     returns-2
     returns-3

@@ -15,35 +15,11 @@ Inv-loop bytes row₀ i₀ row i = (i ≤ length row) × (length row ≡ length 
 abbrev μ-loop : tie.MeasureT-loop
 μ-loop bytes row₀ i₀ row i = length bytes - i
 
-loop-holds : tie.Need-loop-holds Inv-loop μ-loop
-loop-holds c = search needs
-
-same-length : tie.Need-same-length Inv-loop μ-loop
-same-length c = search needs
-
 returns : tie.Need-returns Inv-loop μ-loop
 returns c = search (needs, counts)
 
-shared-slice-read-printed : tie.Need-shared-slice-read-printed Inv-loop μ-loop
-shared-slice-read-printed c = search needs
-
-printed-requires : tie.Need-printed-requires Inv-loop μ-loop
-printed-requires c κs = search needs
-
-slice-write-row : tie.Need-slice-write-row Inv-loop μ-loop
-slice-write-row c = search needs
-
-add-i : tie.Need-add-i Inv-loop μ-loop
-add-i c = search needs
-
-loop-less : tie.Need-loop-less Inv-loop μ-loop
-loop-less c = search needs
-
 loop-again : tie.Need-loop-again Inv-loop μ-loop
 loop-again c = (simp length-set (omega arith), simp length-set (omega arith))
-
-same-length-2 : tie.Need-same-length-2 Inv-loop μ-loop
-same-length-2 c = search needs
 
 returns-2 : tie.Need-returns-2 Inv-loop μ-loop
 returns-2 c = search (needs, counts)
@@ -54,14 +30,14 @@ clean-spec =
     (tie.spec
     Inv-loop
     μ-loop
-    loop-holds
-    same-length
+    (λ c. search needs)
+    (λ c. search needs)
     returns
-    shared-slice-read-printed
-    printed-requires
-    slice-write-row
-    add-i
-    loop-less
+    (λ c. search needs)
+    (λ c κs. search needs)
+    (λ c. search needs)
+    (λ c. search needs)
+    (λ c. search needs)
     loop-again
-    same-length-2
+    (λ c. search needs)
     returns-2)

@@ -7,11 +7,6 @@ use Rattle.laws.specs.Ranges.{equal-in-range}
 use Rattle.rules.specs.Characters.{capital}
 use Rattle.digits.proofs.capital_of.Statement.{statement}
 use Rattle.digits.proofs.capital_of.Tie as tie
-use Rattle.digits.proofs.capital_of.Reads as reads
-use Rattle.digits.proofs.capital_of.Lts as lts
-
-sub-result : tie.Need-sub-result
-sub-result c = search needs
 
 returns : tie.Need-returns
 returns c = equal-in-range (λ x. x - 32) capital 97 26 refl (c .before .before .args .b) (omega arith) (omega arith)
@@ -23,4 +18,4 @@ returns-3 : tie.Need-returns-3
 returns-3 c = equal-in-range (λ x. x) capital 123 133 refl (c .before .before .args .b) (omega arith) (omega arith)
 
 pub capital-of-spec : {M : Type 1} → statement M
-capital-of-spec = tie.close (tie.spec sub-result returns returns-2 returns-3)
+capital-of-spec = tie.close (tie.spec (λ c. search needs) returns returns-2 returns-3)

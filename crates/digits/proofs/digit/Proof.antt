@@ -7,14 +7,6 @@ use Rattle.laws.specs.Ranges.{equal-in-range}
 use Rattle.rules.specs.Units.{digitValue}
 use Rattle.digits.proofs.digit.Statement.{statement}
 use Rattle.digits.proofs.digit.Tie as tie
-use Rattle.digits.proofs.digit.Reads as reads
-use Rattle.digits.proofs.digit.Lts as lts
-
-sub-result : tie.Need-sub-result
-sub-result c = search needs
-
-sub-result-2 : tie.Need-sub-result-2
-sub-result-2 c = search needs
 
 returns : tie.Need-returns
 returns c = equal-in-range (λ x. x - 48) digitValue 48 10 refl (c .before .before .args .b) (omega arith) (omega arith)
@@ -38,4 +30,4 @@ returns-7 : tie.Need-returns-7
 returns-7 c = equal-in-range (λ x. 99) digitValue 103 153 refl (c .before .before .before .before .before .before .args .b) (omega arith) (omega arith)
 
 pub digit-spec : {M : Type 1} → statement M
-digit-spec = tie.close (tie.spec sub-result sub-result-2 returns returns-2 returns-3 returns-4 returns-5 returns-6 returns-7)
+digit-spec = tie.close (tie.spec (λ c. search needs) (λ c. search needs) returns returns-2 returns-3 returns-4 returns-5 returns-6 returns-7)

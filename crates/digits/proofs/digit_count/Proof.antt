@@ -7,8 +7,6 @@ use mathlib.Core.Path.{refl}
 use native.Mathlib.Omega.{arith}
 use Rattle.digits.proofs.digit_count.Statement.{statement}
 use Rattle.digits.proofs.digit_count.Tie as tie
-use Rattle.digits.proofs.digit_count.Reads as reads
-use Rattle.digits.proofs.digit_count.Lts as lts
 
 abbrev Inv-loop : tie.InvT-loop
 Inv-loop n base m₀ k₀ m k = Counting base n k m (mostDigits + 1 - k)

@@ -7,34 +7,12 @@ use lib.ListN.{length}
 use Prim.Native.Nat.{_-_}
 use Rattle.digits.proofs.digits.Statement.{statement}
 use Rattle.digits.proofs.digits.Tie as tie
-use Rattle.digits.proofs.digits.Reads as reads
-use Rattle.digits.proofs.digits.Lts as lts
-use Rattle.digits.proofs.digit.Reads as digit-reads
-use Rattle.digits.proofs.grow.Reads as grow-reads
 
 abbrev Inv-loop : tie.InvT-loop
 Inv-loop word from base start i₀ v₀ i v = digitsAt base word from start ≡ digitsAt base word i v
 
 abbrev μ-loop : tie.MeasureT-loop
 μ-loop word from base start i₀ v₀ i v = length word - i
-
-loop-holds : tie.Need-loop-holds Inv-loop μ-loop
-loop-holds c = search needs
-
-shared-slice-read-digit : tie.Need-shared-slice-read-digit Inv-loop μ-loop
-shared-slice-read-digit c = search needs
-
-digit-requires : tie.Need-digit-requires Inv-loop μ-loop
-digit-requires c κs = search needs
-
-grow-requires : tie.Need-grow-requires Inv-loop μ-loop
-grow-requires c κs = search needs
-
-add-i : tie.Need-add-i Inv-loop μ-loop
-add-i c = search needs
-
-loop-less : tie.Need-loop-less Inv-loop μ-loop
-loop-less c = search needs
 
 loop-again : tie.Need-loop-again Inv-loop μ-loop
 loop-again c = search (needs, digits-more)
@@ -51,12 +29,12 @@ digits-spec =
     (tie.spec
     Inv-loop
     μ-loop
-    loop-holds
-    shared-slice-read-digit
-    digit-requires
-    grow-requires
-    add-i
-    loop-less
+    (λ c. search needs)
+    (λ c. search needs)
+    (λ c κs. search needs)
+    (λ c κs. search needs)
+    (λ c. search needs)
+    (λ c. search needs)
     loop-again
     returns
     returns-2)

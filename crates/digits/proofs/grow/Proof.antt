@@ -5,8 +5,6 @@ use Rattle.digits.specs.Digits.{grown}
 use borrow.Author.Tests.{le-leb, lt-leb}
 use Rattle.digits.proofs.grow.Statement.{statement}
 use Rattle.digits.proofs.grow.Tie as tie
-use Rattle.digits.proofs.grow.Reads as reads
-use Rattle.digits.proofs.grow.Lts as lts
 
 mul-result : tie.Need-mul-result
 mul-result c = let a = c .before .args in omega (arith, grown-fits (a .v) (a .base) (c .if1 .taken) (c .before .pre))

@@ -7,8 +7,6 @@ use Rattle.rules.specs.Characters.{isDigit}
 use native.Mathlib.Omega.{arith}
 use Rattle.digits.proofs.is_digit.Statement.{statement}
 use Rattle.digits.proofs.is_digit.Tie as tie
-use Rattle.digits.proofs.is_digit.Reads as reads
-use Rattle.digits.proofs.is_digit.Lts as lts
 
 returns : tie.Need-returns
 returns c = sym (in-range isDigit 48 10 refl (c .before .before .args .b) (omega arith) (omega arith))

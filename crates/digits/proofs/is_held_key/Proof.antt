@@ -8,12 +8,6 @@ use mathlib.Core.Bool.{not}
 use borrow.Author.Tests.{not-true, lt-leb, ne-eqb}
 use Rattle.digits.proofs.is_held_key.Statement.{statement}
 use Rattle.digits.proofs.is_held_key.Tie as tie
-use Rattle.digits.proofs.is_held_key.Reads as reads
-use Rattle.digits.proofs.is_held_key.Lts as lts
-use Rattle.digits.proofs.is_digit.Reads as is-digit-reads
-
-is-digit-requires : tie.Need-is-digit-requires
-is-digit-requires c κs = search needs
 
 returns : tie.Need-returns
 returns c = rw (← c .before .is-digit .ensures, c .if1 .taken)
@@ -36,4 +30,4 @@ returns-6 c = sym (not-true _ (in-range (λ x. not (isHeldKey x)) 69 187 refl (c
 pub is-held-key-spec : {M : Type 1} → statement M
 is-held-key-spec =
     tie.close
-    (tie.spec is-digit-requires returns returns-2 returns-3 returns-4 returns-5 returns-6)
+    (tie.spec (λ c κs. search needs) returns returns-2 returns-3 returns-4 returns-5 returns-6)

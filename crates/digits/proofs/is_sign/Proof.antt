@@ -3,12 +3,6 @@ use borrow.Author.Needs.{needs}
 use borrow.Author.Tests.{ne-eqb}
 use Rattle.digits.proofs.is_sign.Statement.{statement}
 use Rattle.digits.proofs.is_sign.Tie as tie
-use Rattle.digits.proofs.is_sign.Reads as reads
-use Rattle.digits.proofs.is_sign.Lts as lts
-use Rattle.digits.proofs.is_alnum.Reads as is-alnum-reads
-
-is-alnum-requires : tie.Need-is-alnum-requires
-is-alnum-requires c κs = search needs
 
 returns : tie.Need-returns
 returns c = rw (← c .before .is-alnum .ensures, c .if1 .taken)
@@ -23,4 +17,4 @@ returns-4 : tie.Need-returns-4
 returns-4 c = rw (← c .before .before .before .is-alnum .ensures, c .before .before .if1 .left, ne-eqb _ _ (c .before .if2 .left), ne-eqb _ _ (c .if3 .left))
 
 pub is-sign-spec : {M : Type 1} → statement M
-is-sign-spec = tie.close (tie.spec is-alnum-requires returns returns-2 returns-3 returns-4)
+is-sign-spec = tie.close (tie.spec (λ c κs. search needs) returns returns-2 returns-3 returns-4)

@@ -3,8 +3,6 @@ use Rattle.digits.specs.Digits.{plainLetter}
 use borrow.Author.Tests.{ne-eqb}
 use Rattle.digits.proofs.plain_letter.Statement.{statement}
 use Rattle.digits.proofs.plain_letter.Tie as tie
-use Rattle.digits.proofs.plain_letter.Reads as reads
-use Rattle.digits.proofs.plain_letter.Lts as lts
 
 returns : tie.Need-returns
 unfolding plainLetter

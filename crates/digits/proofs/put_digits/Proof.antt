@@ -7,9 +7,6 @@ use Rattle.digits.proofs.DigitLaws.{Writing, writing-none, writing-more
 use native.Mathlib.Omega.{arith}
 use Rattle.digits.proofs.put_digits.Statement.{statement}
 use Rattle.digits.proofs.put_digits.Tie as tie
-use Rattle.digits.proofs.put_digits.Reads as reads
-use Rattle.digits.proofs.put_digits.Lts as lts
-use Rattle.digits.proofs.digit_char.Reads as digit-char-reads
 
 abbrev Inv-loop : tie.InvT-loop
 Inv-loop out₀ k n base m₀ i₀ out m i = Writing (fixed k base n) out₀ base i m out

@@ -13,20 +13,9 @@ use mathlib.Core.Path.{_≡_, refl, ap, _∙_}
 use native.Mathlib.Omega.{arith}
 use Rattle.digits.proofs.put_whole.Statement.{statement}
 use Rattle.digits.proofs.put_whole.Tie as tie
-use Rattle.digits.proofs.put_whole.Reads as reads
-use Rattle.digits.proofs.put_whole.Lts as lts
-use Rattle.digits.proofs.digit_count.Reads as digit-count-reads
-use Rattle.digits.proofs.put_digits.Reads as put-digits-reads
-use Rattle.digits.proofs.digit_char.Reads as digit-char-reads
-
-digit-char-requires : tie.Need-digit-char-requires
-digit-char-requires c κs = search needs
 
 slice-write-out : tie.Need-slice-write-out
 slice-write-out c = let a = c .before .before .before .args in omega (arith, c .before .before .before .pre .2, ap length (whole-one (a .base) (a .n) (c .before .if1 .taken)))
-
-same-length : tie.Need-same-length
-same-length c = search needs
 
 returns : tie.Need-returns
 returns c =
@@ -35,17 +24,8 @@ returns c =
     let room : 1 ≤ length (now (a .out)) = omega (arith, c .before .before .before .pre .2, ap length one) in
     rw one (refl, rw (c .digit-char .ensures) (sets-eq (digitChar (a .n) ∷ []) (now (a .out)) 0 room))
 
-digit-count-requires : tie.Need-digit-count-requires
-digit-count-requires c κs = search needs
-
-put-digits-requires : tie.Need-put-digits-requires
-put-digits-requires c κs = search needs
-
-same-length-2 : tie.Need-same-length-2
-same-length-2 c = search needs
-
 returns-2 : tie.Need-returns-2
 returns-2 c = let a = c .before .before .before .before .before .before .before .args in (c .before .before .before .before .digit-count .ensures, c .before .before .put-digits .ensures ∙ ap (λ (x : List ℕ). over x (now (a .out))) (whole-fixed (a .base) (a .n) (c .before .before .before .before .digit-count .result) (omega arith) (c .before .before .before .before .digit-count .ensures)))
 
 pub put-whole-spec : {M : Type 1} → statement M
-put-whole-spec = tie.close (tie.spec digit-char-requires slice-write-out same-length returns digit-count-requires put-digits-requires same-length-2 returns-2)
+put-whole-spec = tie.close (tie.spec (λ c κs. search needs) slice-write-out (λ c. search needs) returns (λ c κs. search needs) (λ c κs. search needs) (λ c. search needs) returns-2)

@@ -2,8 +2,6 @@
 use borrow.Author.Tests.{ne-eqb}
 use Rattle.digits.proofs.size.Statement.{statement}
 use Rattle.digits.proofs.size.Tie as tie
-use Rattle.digits.proofs.size.Reads as reads
-use Rattle.digits.proofs.size.Lts as lts
 
 returns : tie.Need-returns
 returns c = rw (c .match .keys1)

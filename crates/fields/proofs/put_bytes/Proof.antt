@@ -8,8 +8,6 @@ use lib.ListN.{length, length-take, take}
 use Rattle.laws.specs.Over.{over, over-take, over-all, length-over}
 use Rattle.fields.proofs.put_bytes.Statement.{statement}
 use Rattle.fields.proofs.put_bytes.Tie as tie
-use Rattle.fields.proofs.put_bytes.Reads as reads
-use Rattle.fields.proofs.put_bytes.Lts as lts
 
 abbrev Inv-loop : tie.InvT-loop
 Inv-loop out₀ content i₀ out i = (i ≤ length content) × (length content ≤ length out₀) × (out ≡ over (take i content) out₀)
@@ -20,20 +18,11 @@ abbrev μ-loop : tie.MeasureT-loop
 loop-holds : tie.Need-loop-holds Inv-loop μ-loop
 loop-holds c = (search needs, search needs, search needs)
 
-shared-slice-read-out : tie.Need-shared-slice-read-out Inv-loop μ-loop
-shared-slice-read-out c = search needs
-
 slice-write-out : tie.Need-slice-write-out Inv-loop μ-loop
 slice-write-out c =
     let l = c .before .before .loop in
     let a = c .before .before .before .args in
     rw (l .inv .2, length-over (take (l .i) (now (a .content))) (now (a .out)) (simp length-take (omega arith))) (omega arith)
-
-add-i : tie.Need-add-i Inv-loop μ-loop
-add-i c = search needs
-
-loop-less : tie.Need-loop-less Inv-loop μ-loop
-loop-less c = search needs
 
 loop-again : tie.Need-loop-again Inv-loop μ-loop
 loop-again c =
@@ -60,10 +49,10 @@ put-bytes-spec =
     Inv-loop
     μ-loop
     loop-holds
-    shared-slice-read-out
+    (λ c. search needs)
     slice-write-out
-    add-i
-    loop-less
+    (λ c. search needs)
+    (λ c. search needs)
     loop-again
     same-length
     returns)

@@ -11,9 +11,6 @@ use Rattle.laws.specs.Over.{over, over-take, over-all, length-over}
 use Rattle.rules.specs.Characters.{capital}
 use Rattle.fields.proofs.put_capitals.Statement.{statement}
 use Rattle.fields.proofs.put_capitals.Tie as tie
-use Rattle.fields.proofs.put_capitals.Reads as reads
-use Rattle.fields.proofs.put_capitals.Lts as lts
-use Rattle.digits.proofs.capital_of.Reads as capital-of-reads
 
 abbrev Inv-loop : tie.InvT-loop
 Inv-loop out₀ content i₀ out i =
@@ -25,23 +22,11 @@ abbrev μ-loop : tie.MeasureT-loop
 loop-holds : tie.Need-loop-holds Inv-loop μ-loop
 loop-holds c = (search needs, search needs, search needs)
 
-shared-slice-read-capital-of : tie.Need-shared-slice-read-capital-of Inv-loop μ-loop
-shared-slice-read-capital-of c = search needs
-
-capital-of-requires : tie.Need-capital-of-requires Inv-loop μ-loop
-capital-of-requires c κs = search needs
-
 slice-write-out : tie.Need-slice-write-out Inv-loop μ-loop
 slice-write-out c =
     let l = c .before .before .before .loop in
     let a = c .before .before .before .before .before .before .args in
     rw (l .inv .2, length-over (take (l .i) (map capital (now (a .content)))) (now (a .out)) (simp (length-take, length-map) (omega arith))) (omega arith)
-
-add-i : tie.Need-add-i Inv-loop μ-loop
-add-i c = search needs
-
-loop-less : tie.Need-loop-less Inv-loop μ-loop
-loop-less c = search needs
 
 loop-again : tie.Need-loop-again Inv-loop μ-loop
 loop-again c =
@@ -79,11 +64,11 @@ put-capitals-spec =
     Inv-loop
     μ-loop
     loop-holds
-    shared-slice-read-capital-of
-    capital-of-requires
+    (λ c. search needs)
+    (λ c κs. search needs)
     slice-write-out
-    add-i
-    loop-less
+    (λ c. search needs)
+    (λ c. search needs)
     loop-again
     same-length
     returns)

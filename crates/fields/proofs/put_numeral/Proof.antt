@@ -7,11 +7,6 @@ use lib.ListN.{length-set}
 use native.Mathlib.Omega.{arith}
 use Rattle.fields.proofs.put_numeral.Statement.{statement}
 use Rattle.fields.proofs.put_numeral.Tie as tie
-use Rattle.fields.proofs.put_numeral.Reads as reads
-use Rattle.fields.proofs.put_numeral.Lts as lts
-
-slice-write-out : tie.Need-slice-write-out
-slice-write-out c = search needs
 
 slice-write-out-2 : tie.Need-slice-write-out-2
 slice-write-out-2 c = simp length-set (omega arith)
@@ -25,32 +20,17 @@ slice-write-out-4 c = simp length-set (omega arith)
 slice-write-out-5 : tie.Need-slice-write-out-5
 slice-write-out-5 c = simp length-set (omega arith)
 
-cast-out : tie.Need-cast-out
-cast-out c = search needs
-
 slice-write-out-6 : tie.Need-slice-write-out-6
 slice-write-out-6 c = simp length-set (omega arith)
-
-cast-out-2 : tie.Need-cast-out-2
-cast-out-2 c = search needs
 
 slice-write-out-7 : tie.Need-slice-write-out-7
 slice-write-out-7 c = simp length-set (omega arith)
 
-cast-out-3 : tie.Need-cast-out-3
-cast-out-3 c = search needs
-
 slice-write-out-8 : tie.Need-slice-write-out-8
 slice-write-out-8 c = simp length-set (omega arith)
 
-cast-out-4 : tie.Need-cast-out-4
-cast-out-4 c = search needs
-
 slice-write-out-9 : tie.Need-slice-write-out-9
 slice-write-out-9 c = simp length-set (omega arith)
-
-same-length : tie.Need-same-length
-same-length c = search needs
 
 returns : tie.Need-returns
 unfolding numeralBytes
@@ -60,18 +40,18 @@ pub put-numeral-spec : {M : Type 1} → statement M
 put-numeral-spec =
     tie.close
     (tie.spec
-    slice-write-out
+    (λ c. search needs)
     slice-write-out-2
     slice-write-out-3
     slice-write-out-4
     slice-write-out-5
-    cast-out
+    (λ c. search needs)
     slice-write-out-6
-    cast-out-2
+    (λ c. search needs)
     slice-write-out-7
-    cast-out-3
+    (λ c. search needs)
     slice-write-out-8
-    cast-out-4
+    (λ c. search needs)
     slice-write-out-9
-    same-length
+    (λ c. search needs)
     returns)

@@ -6,20 +6,9 @@ use lib.ListN.{length-take, length-drop}
 use native.Mathlib.Omega.{arith}
 use Rattle.fields.proofs.put_unit.Statement.{statement}
 use Rattle.fields.proofs.put_unit.Tie as tie
-use Rattle.fields.proofs.put_unit.Reads as reads
-use Rattle.fields.proofs.put_unit.Lts as lts
-use Rattle.fields.proofs.put_field.Reads as put-field-reads
-use Rattle.fields.proofs.put_keyed.Reads as put-keyed-reads
-use Rattle.fields.proofs.put_numeral.Reads as put-numeral-reads
-
-enum-known-unit : tie.Need-enum-known-unit
-enum-known-unit c = search needs
 
 put-numeral-requires : tie.Need-put-numeral-requires
 put-numeral-requires c κs = omega (arith, rw (c .before .before .unit .given .1, numeral-len (now (c .before .before .before .before .before .before .args .word)) (c .before .before .unit .given .0 .0) (c .before .before .unit .given .0 .1 .0) (c .before .before .unit .given .0 .1 .1 .0)) at (c .before .before .before .before .before .before .pre .2))
-
-enum-known-unit-2 : tie.Need-enum-known-unit-2
-enum-known-unit-2 c = search needs
 
 sub-put-keyed : tie.Need-sub-put-keyed
 sub-put-keyed c = rw (c .before .before .unit2 .given .1) at (c .before .before .before .before .before .before .pre .1)
@@ -27,50 +16,23 @@ sub-put-keyed c = rw (c .before .before .unit2 .given .1) at (c .before .before 
 part-put-keyed-start : tie.Need-part-put-keyed-start
 part-put-keyed-start c = rw (c .before .before .unit2 .given .1) at (c .before .before .before .before .before .before .pre .1)
 
-part-put-keyed-end : tie.Need-part-put-keyed-end
-part-put-keyed-end c = search needs
-
 put-keyed-requires : tie.Need-put-keyed-requires
 put-keyed-requires c κs = let k = c .before .before .before .unit2 .given .0 .0 in (simp (length-take, length-drop) (omega arith), simp (length-take, length-drop) (omega (arith, rw (c .before .before .before .unit2 .given .1, keyed-len (now (c .before .before .before .before .before .before .before .args .word)) k) at (c .before .before .before .before .before .before .before .pre .2))))
-
-enum-told : tie.Need-enum-told
-enum-told c = search needs
 
 put-field-requires : tie.Need-put-field-requires
 put-field-requires c κs = (omega (arith, c .before .before .before .before .before .pre .0), omega (arith, rw (c .before .enum-told .given .1, identifier-len (now (c .before .before .before .before .before .args .word))) at (c .before .before .before .before .before .pre .2)))
 
-enum-told-2 : tie.Need-enum-told-2
-enum-told-2 c = search needs
-
 put-field-requires-2 : tie.Need-put-field-requires-2
 put-field-requires-2 c κs = (omega (arith, c .before .before .before .before .before .pre .0), omega (arith, rw (c .before .enum-told2 .given .1, symbolic-len (now (c .before .before .before .before .before .args .word))) at (c .before .before .before .before .before .pre .2)))
-
-enum-told-3 : tie.Need-enum-told-3
-enum-told-3 c = search needs
-
-enum-told-4 : tie.Need-enum-told-4
-enum-told-4 c = search needs
-
-same-length : tie.Need-same-length
-same-length c = search needs
 
 returns : tie.Need-returns
 returns c = let a = c .before .before .before .before .before .before .before .before .before .args in wrote-numeral (now (a .word)) (c .before .before .before .before .before .unit .given .0 .0) (c .before .before .before .before .before .unit .given .0 .1 .0) (c .before .before .before .before .before .unit .given .0 .1 .1 .0) (now (a .out)) (c .before .before .before .before .before .unit .given .1) (c .before .before .put-numeral .ensures)
 
-same-length-2 : tie.Need-same-length-2
-same-length-2 c = search needs
-
 returns-2 : tie.Need-returns-2
 returns-2 c = let a = c .before .before .before .before .before .before .before .before .before .before .args in wrote-keyed (now (a .word)) (c .before .before .before .before .before .before .unit2 .given .0 .0) (now (a .out)) (c .before .before .before .before .before .before .unit2 .given .1) (c .before .before .put-keyed .ensures)
 
-same-length-3 : tie.Need-same-length-3
-same-length-3 c = search needs
-
 returns-3 : tie.Need-returns-3
 returns-3 c = let a = c .before .before .before .before .before .before .before .before .args in wrote-identifier (now (a .word)) (now (a .out)) (c .before .before .before .before .enum-told .given .1) (c .before .before .put-field .ensures)
-
-same-length-4 : tie.Need-same-length-4
-same-length-4 c = search needs
 
 returns-4 : tie.Need-returns-4
 returns-4 c = let a = c .before .before .before .before .before .before .before .before .args in wrote-symbolic (now (a .word)) (now (a .out)) (c .before .before .before .before .enum-told2 .given .1) (c .before .before .put-field2 .ensures)
@@ -85,26 +47,26 @@ pub put-unit-spec : {M : Type 1} → statement M
 put-unit-spec =
     tie.close
     (tie.spec
-    enum-known-unit
+    (λ c. search needs)
     put-numeral-requires
-    enum-known-unit-2
+    (λ c. search needs)
     sub-put-keyed
     part-put-keyed-start
-    part-put-keyed-end
+    (λ c. search needs)
     put-keyed-requires
-    enum-told
+    (λ c. search needs)
     put-field-requires
-    enum-told-2
+    (λ c. search needs)
     put-field-requires-2
-    enum-told-3
-    enum-told-4
-    same-length
+    (λ c. search needs)
+    (λ c. search needs)
+    (λ c. search needs)
     returns
-    same-length-2
+    (λ c. search needs)
     returns-2
-    same-length-3
+    (λ c. search needs)
     returns-3
-    same-length-4
+    (λ c. search needs)
     returns-4
     returns-5
     returns-6)

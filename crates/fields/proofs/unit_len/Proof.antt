@@ -6,38 +6,9 @@ use Rattle.fields.proofs.UnitLaws.{numeral-len, keyed-len, identifier-l
 use denote.Ref.{now}
 use Rattle.fields.proofs.unit_len.Statement.{statement}
 use Rattle.fields.proofs.unit_len.Tie as tie
-use Rattle.fields.proofs.unit_len.Reads as reads
-use Rattle.fields.proofs.unit_len.Lts as lts
-
-enum-known-unit : tie.Need-enum-known-unit
-enum-known-unit c = search needs
-
-enum-known-unit-2 : tie.Need-enum-known-unit-2
-enum-known-unit-2 c = search needs
 
 sub-result : tie.Need-sub-result
 sub-result c = rw (c .before .unit2 .given .1) at (c .before .before .before .pre .1)
-
-add-result : tie.Need-add-result
-add-result c = search needs
-
-enum-told : tie.Need-enum-told
-enum-told c = search needs
-
-add-result-2 : tie.Need-add-result-2
-add-result-2 c = search needs
-
-enum-told-2 : tie.Need-enum-told-2
-enum-told-2 c = search needs
-
-add-result-3 : tie.Need-add-result-3
-add-result-3 c = search needs
-
-enum-told-3 : tie.Need-enum-told-3
-enum-told-3 c = search needs
-
-enum-told-4 : tie.Need-enum-told-4
-enum-told-4 c = search needs
 
 returns : tie.Need-returns
 returns c = rw (c .before .unit .given .1) (sym (numeral-len (now (c .before .before .before .args .word)) (c .before .unit .given .0 .0) (c .before .unit .given .0 .1 .0) (c .before .unit .given .0 .1 .1 .0)))
@@ -63,16 +34,16 @@ pub unit-len-spec : {M : Type 1} → statement M
 unit-len-spec =
     tie.close
     (tie.spec
-    enum-known-unit
-    enum-known-unit-2
+    (λ c. search needs)
+    (λ c. search needs)
     sub-result
-    add-result
-    enum-told
-    add-result-2
-    enum-told-2
-    add-result-3
-    enum-told-3
-    enum-told-4
+    (λ c. search needs)
+    (λ c. search needs)
+    (λ c. search needs)
+    (λ c. search needs)
+    (λ c. search needs)
+    (λ c. search needs)
+    (λ c. search needs)
     returns
     returns-2
     returns-3

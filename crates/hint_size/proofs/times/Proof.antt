@@ -7,15 +7,6 @@ use native.Mathlib.Nat.{le-div-iff-mul-le}
 use Rattle.hint_size.proofs.times.Statement.{statement}
 use Rattle.hint_size.proofs.times.Tie as tie
 
-returns : tie.Need-returns
-returns c = search needs
-
-div-if2 : tie.Need-div-if2
-div-if2 c = search needs
-
-returns-2 : tie.Need-returns-2
-returns-2 c = search needs
-
 mul-result : tie.Need-mul-result
 mul-result c =
     let a = c .before .before .args .a in
@@ -24,8 +15,5 @@ mul-result c =
     let h : a ≤ (2 ^ 64 - 1) / b = omega arith in
     omega (arith, le-div-iff-mul-le p .0 h)
 
-returns-3 : tie.Need-returns-3
-returns-3 c = search needs
-
 pub times-spec : {M : Type 1} → statement M
-times-spec = tie.close (tie.spec returns div-if2 returns-2 mul-result returns-3)
+times-spec = tie.close (tie.spec (λ c. search needs) (λ c. search needs) (λ c. search needs) mul-result (λ c. search needs))

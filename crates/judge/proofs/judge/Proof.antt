@@ -18,15 +18,6 @@ the-code c = subst (IsPieces codeTag false 3 (now (c .before .before .before .be
 returns : tie.Need-returns
 returns c = long-refused (now (c .before .before .before .args .rec)) (c .if1 .taken)
 
-judge-pieces-requires : tie.Need-judge-pieces-requires
-judge-pieces-requires c κs = search needs
-
-enum-known-count : tie.Need-enum-known-count
-enum-known-count c = search needs
-
-enum-told : tie.Need-enum-told
-enum-told c = search needs
-
 returns-2 : tie.Need-returns-2
 returns-2 c = code-gone _ (subst (IsPieces codeTag false 3 (now (c .before .before .before .before .before .before .args .rec)) 0) (c .enum-told .given .1) (c .before .before .judge-pieces .ensures))
 
@@ -36,9 +27,6 @@ returns-3 c = code-empty (the-code (c .before)) (c .if2 .taken)
 judge-blocks-requires : tie.Need-judge-blocks-requires
 judge-blocks-requires c κs = (the-code (c .before .before) .inside, c .before .before .before .before .before .before .if1 .left, c .before .before .before .before .before .before .before .before .before .pre)
 
-same-length : tie.Need-same-length
-same-length c = search needs
-
 returns-4 : tie.Need-returns-4
 returns-4 c = judged-as (the-code (c .before .before .before .before .before)) (c .before .before .before .before .if2 .left) (λ i. omega (arith, c .before .before .before .before .before .before .before .before .before .before .before .shared-slice-known .given i)) _ _ (c .before .before .judge-blocks .result) (c .before .before .judge-blocks .ensures)
 
@@ -47,11 +35,11 @@ judge-spec =
     tie.close
     (tie.spec
     returns
-    judge-pieces-requires
-    enum-known-count
-    enum-told
+    (λ c κs. search needs)
+    (λ c. search needs)
+    (λ c. search needs)
     returns-2
     returns-3
     judge-blocks-requires
-    same-length
+    (λ c. search needs)
     returns-4)

@@ -17,26 +17,14 @@ the-field c =
 field-at-requires : tie.Need-field-at-requires
 field-at-requires c κs = block-inside (now (c .before .before .args .rec)) (c .before .before .args .at) (c .before .before .pre .0)
 
-enum-known-start : tie.Need-enum-known-start
-enum-known-start c = search needs
-
-enum-told : tie.Need-enum-told
-enum-told c = search needs
-
 returns : tie.Need-returns
 returns c = block-gone _ _ _ (no-field (now (c .before .before .before .before .before .args .rec)) (c .before .before .before .before .before .args .at) (c .before .before .field-at .result) (c .before .match .keys2) (c .before .before .field-at .ensures))
 
 shared-slice-read-kind : tie.Need-shared-slice-read-kind
 shared-slice-read-kind c = kind-inside (the-field (c .before)) (c .before .before .before .before .before .before .before .pre .0)
 
-is-kind-requires : tie.Need-is-kind-requires
-is-kind-requires c κs = search needs
-
 judge-places-requires : tie.Need-judge-places-requires
 judge-places-requires c κs = let p = c .before .before .before .before .before .before .before .before .before .before .pre in (the-field (c .before .before .before .before) .inside, p .1, p .2, p .3, p .4)
-
-same-length : tie.Need-same-length
-same-length c = search needs
 
 returns-2 : tie.Need-returns-2
 returns-2 c = block-as (the-field (c .before .before .before .before .before .before .before)) (c .before .before .before .before .before .before .before .before .before .before .before .before .before .pre .0) _ _ (c .before .before .before .before .before .is-kind .ensures) (c .before .before .before .before .if1 .taken) _ _ (c .before .before .judge-places .result) (c .before .before .judge-places .ensures)
@@ -49,12 +37,12 @@ judge-block-spec =
     tie.close
     (tie.spec
     field-at-requires
-    enum-known-start
-    enum-told
+    (λ c. search needs)
+    (λ c. search needs)
     returns
     shared-slice-read-kind
-    is-kind-requires
+    (λ c κs. search needs)
     judge-places-requires
-    same-length
+    (λ c. search needs)
     returns-2
     returns-3)

@@ -18,47 +18,20 @@ abbrev μ-loop : tie.MeasureT-loop
 loop-holds : tie.Need-loop-holds Inv-loop μ-loop
 loop-holds c = blocks-none _ _ _ (c .before .before .pre .0)
 
-head-tag-requires : tie.Need-head-tag-requires Inv-loop μ-loop
-head-tag-requires c κs = search needs
-
-same-length : tie.Need-same-length Inv-loop μ-loop
-same-length c = search needs
-
 returns : tie.Need-returns Inv-loop μ-loop
 returns c = blocks-full (c .before .before .before .loop .inv) (c .before .before .head-tag .ensures) (c .before .if1 .taken) (c .if2 .taken)
 
 judge-block-requires : tie.Need-judge-block-requires Inv-loop μ-loop
 judge-block-requires c κs = let v = c .before .before .before .before .loop .inv in let p = c .before .before .before .before .before .before .before .pre in (sym (c .before .before .before .head-tag .ensures) ∙ c .before .before .if1 .taken, p .1, v .few, v .small, ap (λ n. n % 3) (v .long) ∙ p .2)
 
-enum-known-number : tie.Need-enum-known-number Inv-loop μ-loop
-enum-known-number c = search needs
-
-enum-told : tie.Need-enum-told Inv-loop μ-loop
-enum-told c = search needs
-
-same-length-2 : tie.Need-same-length-2 Inv-loop μ-loop
-same-length-2 c = search needs
-
 returns-2 : tie.Need-returns-2 Inv-loop μ-loop
 returns-2 c = let l = c .before .before .before .before .before .before .before .before .before .loop in blocks-bad (l .inv) (c .before .before .before .before .before .before .before .before .head-tag .ensures) (l .left - 1) (c .before .before .before .before .before .before .before .if1 .taken) (omega arith) (subst (IsBlock (now (c .before .before .before .before .before .before .before .before .before .before .before .before .args .rec)) (l .at) (l .places) (l .total) (l .row) _) (c .enum-told .given .1) (c .before .before .before .before .judge-block .ensures))
-
-sub-left : tie.Need-sub-left Inv-loop μ-loop
-sub-left c = search needs
-
-loop-less : tie.Need-loop-less Inv-loop μ-loop
-loop-less c = search needs
 
 loop-again : tie.Need-loop-again Inv-loop μ-loop
 loop-again c = let l = c .before .before .before .before .before .before .before .before .before .before .loop in blocks-more (l .inv) (c .before .before .before .before .before .before .before .before .before .head-tag .ensures) (l .left - 1) (c .before .before .before .before .before .before .before .before .if1 .taken) (omega arith) (subst (IsBlock (now (c .before .before .before .before .before .before .before .before .before .before .before .before .before .args .rec)) (l .at) (l .places) (l .total) (l .row) _) (c .before .number .given .1) (c .before .before .before .before .before .judge-block .ensures))
 
-same-length-3 : tie.Need-same-length-3 Inv-loop μ-loop
-same-length-3 c = search needs
-
 returns-3 : tie.Need-returns-3 Inv-loop μ-loop
 returns-3 c = blocks-cut (c .before .before .before .loop .inv) (c .before .before .head-tag .ensures) (c .before .if1 .left) (c .if3 .taken)
-
-same-length-4 : tie.Need-same-length-4 Inv-loop μ-loop
-same-length-4 c = search needs
 
 returns-4 : tie.Need-returns-4 Inv-loop μ-loop
 returns-4 c = blocks-end (c .before .before .before .loop .inv) (c .before .before .head-tag .ensures) (c .before .if1 .left) (c .if3 .left)
@@ -70,18 +43,18 @@ judge-blocks-spec =
     Inv-loop
     μ-loop
     loop-holds
-    head-tag-requires
-    same-length
+    (λ c κs. search needs)
+    (λ c. search needs)
     returns
     judge-block-requires
-    enum-known-number
-    enum-told
-    same-length-2
+    (λ c. search needs)
+    (λ c. search needs)
+    (λ c. search needs)
     returns-2
-    sub-left
-    loop-less
+    (λ c. search needs)
+    (λ c. search needs)
     loop-again
-    same-length-3
+    (λ c. search needs)
     returns-3
-    same-length-4
+    (λ c. search needs)
     returns-4)

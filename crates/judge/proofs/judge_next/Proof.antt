@@ -23,26 +23,8 @@ the-place c = subst (IsPlace (c .before .before .before .before .before .args .n
 judge-place-requires : tie.Need-judge-place-requires
 judge-place-requires c κs = c .before .pre .0
 
-enum-known-number : tie.Need-enum-known-number
-enum-known-number c = search needs
-
-enum-told : tie.Need-enum-told
-enum-told c = search needs
-
 returns : tie.Need-returns
 returns c = next-none (c .before .before .before .before .args .named) (now (c .before .before .before .before .args .rec)) (c .before .before .before .before .args .from) (c .before .before .before .before .args .at) (c .before .before .before .before .args .known) (subst (IsPlace (c .before .before .before .before .args .named) (now (c .before .before .before .before .args .rec)) (c .before .before .before .before .args .at)) (c .enum-told .given .1) (c .before .before .judge-place .ensures))
-
-sub-tell : tie.Need-sub-tell
-sub-tell c = search needs
-
-part-tell-start : tie.Need-part-tell-start
-part-tell-start c = search needs
-
-part-tell-end : tie.Need-part-tell-end
-part-tell-end c = search needs
-
-add-tell : tie.Need-add-tell
-add-tell c = search needs
 
 sub-tell-2 : tie.Need-sub-tell-2
 sub-tell-2 c = begin-behind (c .before .before .before .before .before .before .before .args .named) (now (c .before .before .before .before .before .before .before .args .rec)) (c .before .before .before .before .before .before .before .args .from) (c .before .before .before .before .before .before .before .args .at) (c .before .before .before .before .before .before .before .pre .0) (bytes-small (c .before .before .before .before .before .before)) (the-place (c .before .before))
@@ -55,12 +37,6 @@ part-tell-end-2 c = begin-inside (c .before .before .before .before .before .bef
 
 tell-requires : tie.Need-tell-requires
 tell-requires c κs = (places-whole (c .before .before .before .before .before .before .before .before .pre .1 .1), name-enough (c .before .before .before .before .before .before .before .before .args .named) (now (c .before .before .before .before .before .before .before .before .args .rec)) (c .before .before .before .before .before .before .before .before .args .from) (c .before .before .before .before .before .before .before .before .args .at) (c .before .before .before .before .before .before .before .before .pre .0) (bytes-small (c .before .before .before .before .before .before .before)) (the-place (c .before .before .before)) (c .before .before .if1 .taken))
-
-enum-known-key : tie.Need-enum-known-key
-enum-known-key c = search needs
-
-enum-told-2 : tie.Need-enum-told-2
-enum-told-2 c = search needs
 
 returns-2 : tie.Need-returns-2
 returns-2 c = next-twice (c .before .before .before .before .before .before .before .before .before .before .before .args .named) (now (c .before .before .before .before .before .before .before .before .before .before .before .args .rec)) (c .before .before .before .before .before .before .before .before .before .before .before .args .from) (c .before .before .before .before .before .before .before .before .before .before .before .args .at) (c .before .before .before .before .before .before .before .before .before .before .before .pre .0) (bytes-small (c .before .before .before .before .before .before .before .before .before .before)) (the-place (c .before .before .before .before .before .before)) (subst (Tells (bytesIn (now (c .before .before .before .before .before .before .before .before .before .before .before .args .rec)) (c .before .before .before .before .before .before .before .before .before .before .before .args .from) (c .before .before .before .before .before .before .before .before .before .before .before .args .at)) (bytesIn (now (c .before .before .before .before .before .before .before .before .before .before .before .args .rec)) ((c .before .before .before .before .before .before .before .before .before .before .before .args .at) + 4) (c .before .before .before .before .before .before .before .number .given .0 .1 .0)) (c .before .before .before .before .before .before .before .before .before .before .before .args .known)) (c .enum-told2 .given .1) (c .before .before .tell .ensures)) (c .before .before .before .before .before .if1 .taken)
@@ -76,19 +52,19 @@ judge-next-spec =
     tie.close
     (tie.spec
     judge-place-requires
-    enum-known-number
-    enum-told
+    (λ c. search needs)
+    (λ c. search needs)
     returns
-    sub-tell
-    part-tell-start
-    part-tell-end
-    add-tell
+    (λ c. search needs)
+    (λ c. search needs)
+    (λ c. search needs)
+    (λ c. search needs)
     sub-tell-2
     part-tell-start-2
     part-tell-end-2
     tell-requires
-    enum-known-key
-    enum-told-2
+    (λ c. search needs)
+    (λ c. search needs)
     returns-2
     returns-3
     returns-4)

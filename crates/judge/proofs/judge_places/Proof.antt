@@ -25,14 +25,8 @@ the-place c =
     let a = c .before .before .before .before .before .before .before .before .before .before .before .before .before .args in
     subst (NextAs (a .named) (now (a .rec)) (a .from) (l .at) (l .marks) (l .inv .0 .done)) (c .before .number .given .1) (c .before .before .before .judge-next .ensures (l .inv .0 .done) (l .inv .0 .stand))
 
-head-tag-requires : tie.Need-head-tag-requires Inv-loop μ-loop
-head-tag-requires c κs = search needs
-
 returns : tie.Need-returns Inv-loop μ-loop
 returns c = no-place _ _ _ _ (c .before .head-tag .ensures) (c .if1 .taken)
-
-none-requires : tie.Need-none-requires Inv-loop μ-loop
-none-requires c κs = search needs
 
 loop-holds : tie.Need-loop-holds Inv-loop μ-loop
 loop-holds c = let p = c .before .before .before .before .before .pre in (places-none _ _ _ _ _ _ _ (p .0) (p .2) (p .3), λ e. refl)
@@ -40,23 +34,11 @@ loop-holds c = let p = c .before .before .before .before .before .pre in (places
 head-tag-requires-2 : tie.Need-head-tag-requires-2 Inv-loop μ-loop
 head-tag-requires-2 c κs = c .loop .inv .0 .stand .inside
 
-same-length : tie.Need-same-length Inv-loop μ-loop
-same-length c = search needs
-
 returns-2 : tie.Need-returns-2 Inv-loop μ-loop
 returns-2 c = places-full (c .before .before .before .loop .inv .0) (c .before .before .head-tag2 .ensures) (c .before .if2 .taken) (c .if3 .taken)
 
 judge-next-requires : tie.Need-judge-next-requires Inv-loop μ-loop
 judge-next-requires c κs = let v = c .before .before .before .loop .inv .0 in (sym (c .before .before .head-tag2 .ensures) ∙ c .before .if2 .taken, (v .done, v .stand))
-
-enum-known-number : tie.Need-enum-known-number Inv-loop μ-loop
-enum-known-number c = search needs
-
-enum-told : tie.Need-enum-told Inv-loop μ-loop
-enum-told c = search needs
-
-same-length-2 : tie.Need-same-length-2 Inv-loop μ-loop
-same-length-2 c = search needs
 
 returns-3 : tie.Need-returns-3 Inv-loop μ-loop
 returns-3 c =
@@ -67,15 +49,6 @@ returns-3 c =
 
 times-requires : tie.Need-times-requires Inv-loop μ-loop
 times-requires c κs = (c .before .before .before .before .before .before .before .loop .inv .0 .small, the-place c .few)
-
-enum-known-product : tie.Need-enum-known-product Inv-loop μ-loop
-enum-known-product c = search needs
-
-enum-told-2 : tie.Need-enum-told-2 Inv-loop μ-loop
-enum-told-2 c = search needs
-
-same-length-3 : tie.Need-same-length-3 Inv-loop μ-loop
-same-length-3 c = search needs
 
 returns-4 : tie.Need-returns-4 Inv-loop μ-loop
 returns-4 c =
@@ -91,24 +64,12 @@ tell-span-requires c κs =
     let i = told-inside (l .inv .0) (k .before .before .before .before .before .before .head-tag2 .ensures) (the-place k) (p .1) in
     (ap (λ n. n % 3) (l .inv .0 .long) ∙ p .4, lt-of-le-ne (l .inv .0 .few) (k .before .before .before .before .if3 .left), the-place k .few, i .0, i .1)
 
-add-places : tie.Need-add-places Inv-loop μ-loop
-add-places c = search needs
-
-add-if-requires : tie.Need-add-if-requires Inv-loop μ-loop
-add-if-requires c κs = search needs
-
-loop-less : tie.Need-loop-less Inv-loop μ-loop
-loop-less c = search needs
-
 loop-again : tie.Need-loop-again Inv-loop μ-loop
 loop-again c =
     let k = c .before .before .before .before .before .before .before .before .before in
     let l = k .before .before .before .before .before .before .before .loop in
     let o = orders-is _ _ (sym (c .before .before .before .before .before .before .product .given .1) ∙ c .before .before .before .before .before .before .before .before .times .ensures) in
     (places-more (l .inv .0) (k .before .before .before .before .before .before .head-tag2 .ensures) (the-place k) (o .0) (k .before .before .before .before .before .if2 .taken) (k .before .before .before .before .if3 .left) (o .1) (c .add-if .ensures) (c .before .before .before .tell-span .ensures), λ e. absurd (omega (arith, l .inv .0 .number)))
-
-same-length-4 : tie.Need-same-length-4 Inv-loop μ-loop
-same-length-4 c = search needs
 
 returns-5 : tie.Need-returns-5 Inv-loop μ-loop
 returns-5 c =
@@ -123,27 +84,27 @@ judge-places-spec =
     (tie.spec
     Inv-loop
     μ-loop
-    head-tag-requires
+    (λ c κs. search needs)
     returns
-    none-requires
+    (λ c κs. search needs)
     loop-holds
     head-tag-requires-2
-    same-length
+    (λ c. search needs)
     returns-2
     judge-next-requires
-    enum-known-number
-    enum-told
-    same-length-2
+    (λ c. search needs)
+    (λ c. search needs)
+    (λ c. search needs)
     returns-3
     times-requires
-    enum-known-product
-    enum-told-2
-    same-length-3
+    (λ c. search needs)
+    (λ c. search needs)
+    (λ c. search needs)
     returns-4
     tell-span-requires
-    add-places
-    add-if-requires
-    loop-less
+    (λ c. search needs)
+    (λ c κs. search needs)
+    (λ c. search needs)
     loop-again
-    same-length-4
+    (λ c. search needs)
     returns-5)

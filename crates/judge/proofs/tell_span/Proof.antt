@@ -13,44 +13,11 @@ use Rattle.judge.proofs.tell_span.Tie as tie
 threes : (c : tie.Then1) → length (now (c .before .args .row)) % 3 ≡ 0
 threes c = c .before .pre .0
 
-mul-i : tie.Need-mul-i
-mul-i c = search needs
-
-cast-row : tie.Need-cast-row
-cast-row c = search needs
-
-mul-row : tie.Need-mul-row
-mul-row c = search needs
-
-slice-write-row : tie.Need-slice-write-row
-slice-write-row c = search needs
-
-cast-row-2 : tie.Need-cast-row-2
-cast-row-2 c = search needs
-
-add-row : tie.Need-add-row
-add-row c = search needs
-
-mul-row-2 : tie.Need-mul-row-2
-mul-row-2 c = search needs
-
 slice-write-row-2 : tie.Need-slice-write-row-2
 slice-write-row-2 c = let h = threes c in simp length-set (omega arith)
 
-cast-row-3 : tie.Need-cast-row-3
-cast-row-3 c = search needs
-
-add-row-2 : tie.Need-add-row-2
-add-row-2 c = search needs
-
-mul-row-3 : tie.Need-mul-row-3
-mul-row-3 c = search needs
-
 slice-write-row-3 : tie.Need-slice-write-row-3
 slice-write-row-3 c = let h = threes c in simp length-set (omega arith)
-
-same-length : tie.Need-same-length
-same-length c = search needs
 
 returns : tie.Need-returns
 returns c = told-yes (now (c .before .args .row)) (c .before .args .place) (c .before .args .number) (c .before .args .value) (c .before .args .next) refl (c .if1 .taken)
@@ -62,18 +29,18 @@ pub tell-span-spec : {M : Type 1} → statement M
 tell-span-spec =
     tie.close
     (tie.spec
-    mul-i
-    cast-row
-    mul-row
-    slice-write-row
-    cast-row-2
-    add-row
-    mul-row-2
+    (λ c. search needs)
+    (λ c. search needs)
+    (λ c. search needs)
+    (λ c. search needs)
+    (λ c. search needs)
+    (λ c. search needs)
+    (λ c. search needs)
     slice-write-row-2
-    cast-row-3
-    add-row-2
-    mul-row-3
+    (λ c. search needs)
+    (λ c. search needs)
+    (λ c. search needs)
     slice-write-row-3
-    same-length
+    (λ c. search needs)
     returns
     returns-2)

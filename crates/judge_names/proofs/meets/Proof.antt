@@ -5,9 +5,6 @@ use denote.Ref.{now}
 use Rattle.judge_names.proofs.meets.Statement.{statement}
 use Rattle.judge_names.proofs.meets.Tie as tie
 
-has-requires : tie.Need-has-requires
-has-requires c κs = search needs
-
 stands-requires : tie.Need-stands-requires
 stands-requires c κs = c .before .before .before .before .pre .0
 
@@ -18,4 +15,4 @@ returns-2 : tie.Need-returns-2
 returns-2 c = meets-not (now (c .before .before .before .before .args .places)) (now (c .before .before .before .before .args .name)) (c .before .before .before .before .args .known) (c .before .before .before .before .pre .1) (c .before .has .ensures) (c .if1 .left)
 
 pub meets-spec : {M : Type 1} → statement M
-meets-spec = tie.close (tie.spec has-requires stands-requires returns returns-2)
+meets-spec = tie.close (tie.spec (λ c κs. search needs) stands-requires returns returns-2)

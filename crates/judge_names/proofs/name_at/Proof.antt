@@ -6,9 +6,6 @@ use denote.Ref.{now}
 use Rattle.judge_names.proofs.name_at.Statement.{statement}
 use Rattle.judge_names.proofs.name_at.Tie as tie
 
-after-requires : tie.Need-after-requires
-after-requires c κs = search needs
-
 name-end-requires : tie.Need-name-end-requires
 name-end-requires c κs = rw (c .after .ensures) (whole-after (c .before .before .pre))
 
@@ -16,4 +13,4 @@ returns : tie.Need-returns
 returns c = name-found (now (c .before .before .before .args .places)) (c .before .before .before .args .at) (c .before .after .ensures) (c .name-end .ensures)
 
 pub name-at-spec : {M : Type 1} → statement M
-name-at-spec = tie.close (tie.spec after-requires name-end-requires returns)
+name-at-spec = tie.close (tie.spec (λ c κs. search needs) name-end-requires returns)

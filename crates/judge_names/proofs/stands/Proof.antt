@@ -31,9 +31,6 @@ part-same-start c = c .name-at .ensures .order
 part-same-end : tie.Need-part-same-end Inv-loop μ-loop
 part-same-end c = c .name-at .ensures .whole .inside
 
-same-requires : tie.Need-same-requires Inv-loop μ-loop
-same-requires c κs = search needs
-
 returns : tie.Need-returns Inv-loop μ-loop
 returns c = c .before .before .before .before .before .loop .inv .1 true (stands-here (now (c .before .before .before .before .before .before .before .before .args .places)) (c .before .before .before .before .before .loop .at) (now (c .before .before .before .before .before .before .before .before .args .name)) (c .before .before .before .name-at .ensures) (c .before .same .ensures) (c .before .before .before .before .loop-test .taken) (c .if1 .taken))
 
@@ -60,7 +57,7 @@ stands-spec =
     sub-same
     part-same-start
     part-same-end
-    same-requires
+    (λ c κs. search needs)
     returns
     run-end-requires
     loop-less

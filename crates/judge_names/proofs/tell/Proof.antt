@@ -13,18 +13,6 @@ use Rattle.judge_names.proofs.tell.Tie as tie
 name-key : (c : tie.After-key) → c .key .result ≡ bytesKey (now (c .before .before .before .before .args .name))
 name-key c = c .key .ensures ∙ ap (keyOf 0) (part-there (now (c .before .before .before .before .args .name)) 3)
 
-sub-key : tie.Need-sub-key
-sub-key c = search needs
-
-part-key-start : tie.Need-part-key-start
-part-key-start c = search needs
-
-part-key-end : tie.Need-part-key-end
-part-key-end c = search needs
-
-key-requires : tie.Need-key-requires
-key-requires c κs = search needs
-
 meets-requires : tie.Need-meets-requires
 meets-requires c κs = (c .before .before .before .before .pre .0, name-key c)
 
@@ -37,4 +25,4 @@ returns-2 c = told-once (c .before .before .before .before .before .before .args
 pub tell-spec : {M : Type 1} → statement M
 tell-spec =
     tie.close
-    (tie.spec sub-key part-key-start part-key-end key-requires meets-requires returns returns-2)
+    (tie.spec (λ c. search needs) (λ c. search needs) (λ c. search needs) (λ c κs. search needs) meets-requires returns returns-2)

@@ -4,17 +4,11 @@ use Rattle.judge_place.proofs.PieceLaws.{piece-name, piece-plain, piece
 use Rattle.judge_place.proofs.is_piece.Statement.{statement}
 use Rattle.judge_place.proofs.is_piece.Tie as tie
 
-is-identifier-requires : tie.Need-is-identifier-requires
-is-identifier-requires c κs = search needs
-
 returns : tie.Need-returns
 returns c = piece-name _ _ (c .before .is-identifier .ensures) (c .if1 .taken)
 
 returns-2 : tie.Need-returns-2
 returns-2 c = piece-empty _ _ (c .if3 .taken)
-
-all-decimal-requires : tie.Need-all-decimal-requires
-all-decimal-requires c κs = search needs
 
 returns-3 : tie.Need-returns-3
 returns-3 c = piece-index _ _ (c .before .before .before .before .is-identifier .ensures) (c .before .before .before .if1 .left) (c .before .before .if2 .taken) (c .before .if3 .left) (c .all-decimal .ensures)
@@ -25,4 +19,4 @@ returns-4 c = piece-plain _ _ (c .before .before .is-identifier .ensures) (c .be
 pub is-piece-spec : {M : Type 1} → statement M
 is-piece-spec =
     tie.close
-    (tie.spec is-identifier-requires returns returns-2 all-decimal-requires returns-3 returns-4)
+    (tie.spec (λ c κs. search needs) returns returns-2 (λ c κs. search needs) returns-3 returns-4)

@@ -28,15 +28,6 @@ the-value c =
 bytes-small : (c : tie.After-known-told2) → Small (now (c .before .before .before .before .before .before .before .before .before .args .rec))
 bytes-small c i = omega (arith, c .before .before .before .before .before .before .before .before .shared-slice-known .given i)
 
-behind-name-requires : tie.Need-behind-name-requires
-behind-name-requires c κs = search needs
-
-enum-known-value : tie.Need-enum-known-value
-enum-known-value c = search needs
-
-enum-told : tie.Need-enum-told
-enum-told c = search needs
-
 returns : tie.Need-returns
 returns c =
     let a = c .before .before .before .before .args in
@@ -44,12 +35,6 @@ returns c =
 
 judge-value-requires : tie.Need-judge-value-requires
 judge-value-requires c κs = the-name c .inside
-
-enum-known-number : tie.Need-enum-known-number
-enum-known-number c = search needs
-
-enum-told-2 : tie.Need-enum-told-2
-enum-told-2 c = search needs
 
 returns-2 : tie.Need-returns-2
 returns-2 c =
@@ -62,9 +47,6 @@ sub-kind-agrees c =
     let s = c .before .before .before .before .before .before .before .before .before in
     let a = s .args in
     omega (arith, name-order (a .named) (now (a .rec)) (a .from) (the-name (c .before .before .before .before)) (bytes-small c) (s .pre))
-
-kind-agrees-requires : tie.Need-kind-agrees-requires
-kind-agrees-requires c κs = search needs
 
 returns-3 : tie.Need-returns-3
 returns-3 c =
@@ -84,15 +66,15 @@ pub judge-parts-spec : {M : Type 1} → statement M
 judge-parts-spec =
     tie.close
     (tie.spec
-    behind-name-requires
-    enum-known-value
-    enum-told
+    (λ c κs. search needs)
+    (λ c. search needs)
+    (λ c. search needs)
     returns
     judge-value-requires
-    enum-known-number
-    enum-told-2
+    (λ c. search needs)
+    (λ c. search needs)
     returns-2
     sub-kind-agrees
-    kind-agrees-requires
+    (λ c κs. search needs)
     returns-3
     returns-4)

@@ -26,20 +26,11 @@ the-field c =
 loop-holds : tie.Need-loop-holds Inv-loop μ-loop
 loop-holds c = pieces-none _ _ _ _ _ (c .before .pre)
 
-head-tag-requires : tie.Need-head-tag-requires Inv-loop μ-loop
-head-tag-requires c κs = search needs
-
 returns : tie.Need-returns Inv-loop μ-loop
 returns c = pieces-full (c .before .before .before .loop .inv) (c .before .before .head-tag .ensures) (c .before .if1 .taken) (c .if2 .taken)
 
 field-at-requires : tie.Need-field-at-requires Inv-loop μ-loop
 field-at-requires c κs = c .before .before .before .loop .inv .inside
-
-enum-known-start : tie.Need-enum-known-start Inv-loop μ-loop
-enum-known-start c = search needs
-
-enum-told : tie.Need-enum-told Inv-loop μ-loop
-enum-told c = search needs
 
 returns-2 : tie.Need-returns-2 Inv-loop μ-loop
 returns-2 c = let l = c .before .before .before .before .before .before .loop in pieces-bad (l .inv) (c .before .before .before .before .before .head-tag .ensures) (l .left - 1) (c .before .before .before .before .if1 .taken) (omega arith) (piece-gone _ _ (no-field (now (c .before .before .before .before .before .before .before .before .args .rec)) (l .at) (c .before .before .field-at .result) (c .before .match .keys2) (c .before .before .field-at .ensures)))
@@ -52,15 +43,6 @@ part-is-piece-start c = the-field c .ends
 
 part-is-piece-end : tie.Need-part-is-piece-end Inv-loop μ-loop
 part-is-piece-end c = the-field c .inside
-
-is-piece-requires : tie.Need-is-piece-requires Inv-loop μ-loop
-is-piece-requires c κs = search needs
-
-sub-left : tie.Need-sub-left Inv-loop μ-loop
-sub-left c = search needs
-
-loop-less : tie.Need-loop-less Inv-loop μ-loop
-loop-less c = search needs
 
 loop-again : tie.Need-loop-again Inv-loop μ-loop
 loop-again c = let l = c .before .before .before .before .before .before .before .before .before .before .loop in let f = the-field (c .before .before .before) in pieces-more (l .inv) (c .before .before .before .before .before .before .before .before .before .head-tag .ensures) (l .left - 1) (c .before .before .before .before .before .before .before .before .if1 .taken) (omega arith) f (piece-yes _ f (c .before .is-piece .ensures) (c .if3 .taken))
@@ -81,18 +63,18 @@ judge-pieces-spec =
     Inv-loop
     μ-loop
     loop-holds
-    head-tag-requires
+    (λ c κs. search needs)
     returns
     field-at-requires
-    enum-known-start
-    enum-told
+    (λ c. search needs)
+    (λ c. search needs)
     returns-2
     sub-is-piece
     part-is-piece-start
     part-is-piece-end
-    is-piece-requires
-    sub-left
-    loop-less
+    (λ c κs. search needs)
+    (λ c. search needs)
+    (λ c. search needs)
     loop-again
     returns-3
     sub-t19

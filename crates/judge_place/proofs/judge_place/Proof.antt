@@ -17,20 +17,11 @@ the-field c =
 field-at-requires : tie.Need-field-at-requires
 field-at-requires c κs = place-inside (now (c .before .args .rec)) (c .before .args .at) (c .before .pre)
 
-enum-known-start : tie.Need-enum-known-start
-enum-known-start c = search needs
-
-enum-told : tie.Need-enum-told
-enum-told c = search needs
-
 returns : tie.Need-returns
 returns c = place-gone _ _ (no-field (now (c .before .before .before .before .args .rec)) (c .before .before .before .before .args .at) (c .before .before .field-at .result) (c .before .match .keys2) (c .before .before .field-at .ensures))
 
 shared-slice-read-base : tie.Need-shared-slice-read-base
 shared-slice-read-base c = letter-inside (the-field (c .before)) (c .before .before .before .before .before .before .pre)
-
-is-base-requires : tie.Need-is-base-requires
-is-base-requires c κs = search needs
 
 judge-parts-requires : tie.Need-judge-parts-requires
 judge-parts-requires c κs = the-field (c .before .before .before) .inside
@@ -46,11 +37,11 @@ judge-place-spec =
     tie.close
     (tie.spec
     field-at-requires
-    enum-known-start
-    enum-told
+    (λ c. search needs)
+    (λ c. search needs)
     returns
     shared-slice-read-base
-    is-base-requires
+    (λ c κs. search needs)
     judge-parts-requires
     returns-2
     returns-3)

@@ -7,30 +7,12 @@ use lib.ListN.{length}
 use Prim.Native.Nat.{_-_}
 use Rattle.judge_unit.proofs.all_permitted.Statement.{statement}
 use Rattle.judge_unit.proofs.all_permitted.Tie as tie
-use Rattle.judge_unit.proofs.all_permitted.Reads as reads
-use Rattle.judge_unit.proofs.all_permitted.Lts as lts
-use Rattle.judge_unit.proofs.is_permitted.Reads as is-permitted-reads
 
 abbrev Inv-loop : tie.InvT-loop
 Inv-loop word i₀ i = allAt isPermitted word 0 ≡ allAt isPermitted word i
 
 abbrev μ-loop : tie.MeasureT-loop
 μ-loop word i₀ i = length word - i
-
-loop-holds : tie.Need-loop-holds Inv-loop μ-loop
-loop-holds c = search needs
-
-shared-slice-read-is-permitted : tie.Need-shared-slice-read-is-permitted Inv-loop μ-loop
-shared-slice-read-is-permitted c = search needs
-
-is-permitted-requires : tie.Need-is-permitted-requires Inv-loop μ-loop
-is-permitted-requires c κs = search needs
-
-add-i : tie.Need-add-i Inv-loop μ-loop
-add-i c = search needs
-
-loop-less : tie.Need-loop-less Inv-loop μ-loop
-loop-less c = search needs
 
 loop-again : tie.Need-loop-again Inv-loop μ-loop
 loop-again c = search (needs, all-more)
@@ -47,11 +29,11 @@ all-permitted-spec =
     (tie.spec
     Inv-loop
     μ-loop
-    loop-holds
-    shared-slice-read-is-permitted
-    is-permitted-requires
-    add-i
-    loop-less
+    (λ c. search needs)
+    (λ c. search needs)
+    (λ c κs. search needs)
+    (λ c. search needs)
+    (λ c. search needs)
     loop-again
     returns
     returns-2)

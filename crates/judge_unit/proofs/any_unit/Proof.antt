@@ -2,8 +2,7 @@
 use borrow.Author.Needs.{needs}
 use mathlib.Core.Path.{sym, _∙_}
 use denote.Ref.{now}
-use Rattle.rules.specs.Units.{baseAt}
-use Rattle.record_walk.proofs.WalkLaws.{IsField, finds, no-field}
+use Rattle.record_walk.proofs.WalkLaws.{IsField, finds}
 use Rattle.judge_unit.proofs.UnitLaws.{unit-gone, ends-there, unit-found, unit-unfit, numeral-long}
 use Rattle.judge_unit.proofs.any_unit.Statement.{statement}
 use Rattle.judge_unit.proofs.any_unit.Tie as tie
@@ -12,15 +11,6 @@ use Rattle.judge_unit.proofs.any_unit.Tie as tie
 the-field : (c : tie.After-known-told) → let v = c .before .tag .given .0 in
     IsField (now (c .before .before .before .before .before .args .rec)) (c .before .before .before .before .before .args .at) (v .0) (v .1 .0) (v .1 .1 .0)
 the-field c = let a = c .before .before .before .before .before .args in finds (now (a .rec)) (a .at) _ (sym (c .before .tag .given .1) ∙ c .before .before .before .field-at .ensures)
-
-field-at-requires : tie.Need-field-at-requires
-field-at-requires c κs = search needs
-
-enum-known-tag : tie.Need-enum-known-tag
-enum-known-tag c = search needs
-
-enum-told : tie.Need-enum-told
-enum-told c = search needs
 
 returns : tie.Need-returns
 returns c =
@@ -40,9 +30,9 @@ pub any-unit-spec : {M : Type 1} → statement M
 any-unit-spec =
     tie.close
     (tie.spec
-    field-at-requires
-    enum-known-tag
-    enum-told
+    (λ c κs. search needs)
+    (λ c. search needs)
+    (λ c. search needs)
     returns
     content-stands-requires
     returns-2

@@ -21,9 +21,6 @@ add-numeral-stands c = let p = c .before .before .before .pre in record { fits =
 shared-slice-read-numeral-stands-2 : tie.Need-shared-slice-read-numeral-stands-2
 shared-slice-read-numeral-stands-2 c = let p = c .before .before .before .before .pre in omega (arith, p .1, p .2 (c .before .before .if1 .taken))
 
-numeral-stands-requires : tie.Need-numeral-stands-requires
-numeral-stands-requires c κs = search needs
-
 returns : tie.Need-returns
 returns c =
     let s = c .before .before .before .before .before in
@@ -33,18 +30,6 @@ returns c =
     c .numeral-stands .ensures
     ∙ numeral-there (a .base) rec (a .start) (a .next) (λ i. omega (arith, c .before .before .before .before .shared-slice-known .given i)) (s .pre .2 six) (s .pre .1)
     ∙ ap (λ (t : ℕ). unitStands (baseAt (a .base)) t (bytesIn rec (a .start) (a .next))) (sym six)
-
-sub-stands : tie.Need-sub-stands
-sub-stands c = search needs
-
-part-stands-start : tie.Need-part-stands-start
-part-stands-start c = search needs
-
-part-stands-end : tie.Need-part-stands-end
-part-stands-end c = search needs
-
-stands-requires : tie.Need-stands-requires
-stands-requires c κs = search needs
 
 returns-2 : tie.Need-returns-2
 returns-2 c =
@@ -58,10 +43,10 @@ content-stands-spec =
     shared-slice-read-numeral-stands
     add-numeral-stands
     shared-slice-read-numeral-stands-2
-    numeral-stands-requires
+    (λ c κs. search needs)
     returns
-    sub-stands
-    part-stands-start
-    part-stands-end
-    stands-requires
+    (λ c. search needs)
+    (λ c. search needs)
+    (λ c. search needs)
+    (λ c κs. search needs)
     returns-2)

@@ -3,8 +3,6 @@ use Rattle.rules.specs.Units.{radixAt}
 use Rattle.judge_unit.proofs.StandLaws.{fraction-none, fraction-decimal, fraction-not}
 use Rattle.judge_unit.proofs.fraction_stands.Statement.{statement}
 use Rattle.judge_unit.proofs.fraction_stands.Tie as tie
-use Rattle.judge_unit.proofs.fraction_stands.Reads as reads
-use Rattle.judge_unit.proofs.fraction_stands.Lts as lts
 
 returns : tie.Need-returns
 returns c = let a = c .before .args in fraction-none (radixAt (a .letter)) (a .fraction) (c .if1 .taken)

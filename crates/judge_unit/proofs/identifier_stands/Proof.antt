@@ -9,9 +9,6 @@ use Rattle.judge_unit.proofs.identifier_stands.Tie as tie
 returns : tie.Need-returns
 returns c = let a = c .before .before .args in ident-long (a .base) (now (a .word)) (c .if1 .taken)
 
-is-identifier-requires : tie.Need-is-identifier-requires
-is-identifier-requires c κs = search needs
-
 is-no-numeral-requires : tie.Need-is-no-numeral-requires
 is-no-numeral-requires c κs = sym (c .before .is-identifier .ensures) ∙ c .if2 .taken
 
@@ -23,4 +20,4 @@ returns-3 c = let a = c .before .before .before .before .args in ident-no (a .ba
 
 pub identifier-stands-spec : {M : Type 1} → statement M
 identifier-stands-spec =
-    tie.close (tie.spec returns is-identifier-requires is-no-numeral-requires returns-2 returns-3)
+    tie.close (tie.spec returns (λ c κs. search needs) is-no-numeral-requires returns-2 returns-3)

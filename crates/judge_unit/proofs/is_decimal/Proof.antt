@@ -8,9 +8,6 @@ use Rattle.judge_unit.specs.Units.{decimalAt}
 use Rattle.judge_unit.proofs.is_decimal.Statement.{statement}
 use Rattle.judge_unit.proofs.is_decimal.Tie as tie
 
-add-if1 : tie.Need-add-if1
-add-if1 c = search needs
-
 returns : tie.Need-returns
 unfolding decimalAt
 returns c = rw (lt-leb _ _ (c .if1 .taken))
@@ -21,9 +18,6 @@ number-at-requires c κs = omega (arith, c .if1 .left)
 returns-2 : tie.Need-returns-2
 unfolding decimalAt
 returns-2 c = rw (le-leb _ _ (c .before .before .if1 .left), ← c .before .number-at .ensures, ne-eqb _ _ (c .if2 .taken))
-
-add-fraction-stands : tie.Need-add-fraction-stands
-add-fraction-stands c = search needs
 
 shared-slice-read-fraction-stands : tie.Need-shared-slice-read-fraction-stands
 shared-slice-read-fraction-stands c = omega (arith, c .before .before .before .if1 .left)
@@ -42,11 +36,11 @@ pub is-decimal-spec : {M : Type 1} → statement M
 is-decimal-spec =
     tie.close
     (tie.spec
-    add-if1
+    (λ c. search needs)
     returns
     number-at-requires
     returns-2
-    add-fraction-stands
+    (λ c. search needs)
     shared-slice-read-fraction-stands
     fraction-stands-requires
     returns-3)

@@ -4,14 +4,8 @@ use Rattle.judge_unit.proofs.StandLaws.{ident-none}
 use Rattle.judge_unit.proofs.is_no_numeral.Statement.{statement}
 use Rattle.judge_unit.proofs.is_no_numeral.Tie as tie
 
-no-numeral-requires : tie.Need-no-numeral-requires
-no-numeral-requires c κs = search needs
-
 returns : tie.Need-returns
 returns c = c .no-numeral .ensures
-
-no-numeral-requires-2 : tie.Need-no-numeral-requires-2
-no-numeral-requires-2 c κs = search needs
 
 returns-2 : tie.Need-returns-2
 returns-2 c = c .no-numeral2 .ensures
@@ -23,8 +17,8 @@ pub is-no-numeral-spec : {M : Type 1} → statement M
 is-no-numeral-spec =
     tie.close
     (tie.spec
-    no-numeral-requires
+    (λ c κs. search needs)
     returns
-    no-numeral-requires-2
+    (λ c κs. search needs)
     returns-2
     returns-3)

@@ -7,8 +7,6 @@ use Rattle.rules.specs.Characters.{isPermitted}
 use native.Mathlib.Omega.{arith}
 use Rattle.judge_unit.proofs.is_permitted.Statement.{statement}
 use Rattle.judge_unit.proofs.is_permitted.Tie as tie
-use Rattle.judge_unit.proofs.is_permitted.Reads as reads
-use Rattle.judge_unit.proofs.is_permitted.Lts as lts
 
 returns : tie.Need-returns
 returns c = sym (in-range isPermitted 9 5 refl (c .before .before .args .b) (omega arith) (omega arith))

@@ -3,12 +3,6 @@ use borrow.Author.Needs.{needs}
 use borrow.Author.Tests.{ne-eqb}
 use Rattle.judge_unit.proofs.is_word_char.Statement.{statement}
 use Rattle.judge_unit.proofs.is_word_char.Tie as tie
-use Rattle.judge_unit.proofs.is_word_char.Reads as reads
-use Rattle.judge_unit.proofs.is_word_char.Lts as lts
-use Rattle.digits.proofs.is_alnum.Reads as is-alnum-reads
-
-is-alnum-requires : tie.Need-is-alnum-requires
-is-alnum-requires c κs = search needs
 
 returns : tie.Need-returns
 returns c = rw (← c .before .is-alnum .ensures, c .if1 .taken)
@@ -31,4 +25,4 @@ returns-6 c = rw (← c .before .before .before .before .before .is-alnum .ensur
 pub is-word-char-spec : {M : Type 1} → statement M
 is-word-char-spec =
     tie.close
-    (tie.spec is-alnum-requires returns returns-2 returns-3 returns-4 returns-5 returns-6)
+    (tie.spec (λ c κs. search needs) returns returns-2 returns-3 returns-4 returns-5 returns-6)

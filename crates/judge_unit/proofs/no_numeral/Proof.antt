@@ -8,18 +8,9 @@ use denote.Ref.{now}
 use Rattle.judge_unit.proofs.StandLaws.{unread, none-is}
 use Rattle.judge_unit.proofs.no_numeral.Statement.{statement}
 use Rattle.judge_unit.proofs.no_numeral.Tie as tie
-use Rattle.judge_unit.proofs.no_numeral.Reads as reads
-use Rattle.judge_unit.proofs.no_numeral.Lts as lts
-use Rattle.units.proofs.numeral_unit.Reads as numeral-unit-reads
 
 other : (a : Answer) → Other a → unread a ≡ false
 other = by-other (λ a. unread a ≡ false) (λ l f v. refl) (λ k. refl) refl refl refl
-
-numeral-unit-requires : tie.Need-numeral-unit-requires
-numeral-unit-requires c κs = search needs
-
-enum-told : tie.Need-enum-told
-enum-told c = search needs
 
 returns : tie.Need-returns
 returns c = let a = c .before .before .before .before .args in sym (ap unread (c .enum-told .given .1)) ∙ none-is (a .base) (now (a .word)) (c .before .before .numeral-unit .ensures)
@@ -28,4 +19,4 @@ returns-2 : tie.Need-returns-2
 returns-2 c = let a = c .before .before .before .args in sym (other (c .before .numeral-unit .result) (c .match .keys2)) ∙ none-is (a .base) (now (a .word)) (c .before .numeral-unit .ensures)
 
 pub no-numeral-spec : {M : Type 1} → statement M
-no-numeral-spec = tie.close (tie.spec numeral-unit-requires enum-told returns returns-2)
+no-numeral-spec = tie.close (tie.spec (λ c κs. search needs) (λ c. search needs) returns returns-2)

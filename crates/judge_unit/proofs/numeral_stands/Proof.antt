@@ -10,9 +10,6 @@ returns : tie.Need-returns
 unfolding numeralStands
 returns c = rw (eq-eqb _ _ (c .if1 .taken))
 
-plain-letter-requires : tie.Need-plain-letter-requires
-plain-letter-requires c κs = search needs
-
 fraction-stands-requires : tie.Need-fraction-stands-requires
 fraction-stands-requires c κs = sym (c .before .plain-letter .ensures) ∙ c .if2 .taken
 
@@ -29,7 +26,7 @@ numeral-stands-spec =
     tie.close
     (tie.spec
     returns
-    plain-letter-requires
+    (λ c κs. search needs)
     fraction-stands-requires
     returns-2
     returns-3)

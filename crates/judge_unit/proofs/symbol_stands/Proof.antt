@@ -4,30 +4,12 @@ use denote.Ref.{now}
 use Rattle.judge_unit.proofs.StandLaws.{symbol-long, symbol-ident, symbol-not, symbol-num, symbol-yes}
 use Rattle.judge_unit.proofs.symbol_stands.Statement.{statement}
 use Rattle.judge_unit.proofs.symbol_stands.Tie as tie
-use Rattle.judge_unit.proofs.symbol_stands.Reads as reads
-use Rattle.judge_unit.proofs.symbol_stands.Lts as lts
-use Rattle.judge_unit.proofs.no_double.Reads as no-double-reads
-use Rattle.judge_unit.proofs.no_numeral.Reads as no-numeral-reads
-use Rattle.units.proofs.is_identifier.Reads as is-identifier-reads
-use Rattle.units.proofs.is_symbolic.Reads as is-symbolic-reads
 
 returns : tie.Need-returns
 returns c = let a = c .before .before .args in symbol-long (a .base) (now (a .word)) (c .if1 .taken)
 
-is-identifier-requires : tie.Need-is-identifier-requires
-is-identifier-requires c κs = search needs
-
 returns-2 : tie.Need-returns-2
 returns-2 c = let a = c .before .before .before .before .args in symbol-ident (a .base) (now (a .word)) (c .before .is-identifier .ensures) (c .if2 .taken)
-
-is-symbolic-requires : tie.Need-is-symbolic-requires
-is-symbolic-requires c κs = search needs
-
-no-numeral-requires : tie.Need-no-numeral-requires
-no-numeral-requires c κs = search needs
-
-no-double-requires : tie.Need-no-double-requires
-no-double-requires c κs = search needs
 
 returns-3 : tie.Need-returns-3
 returns-3 c = let a = c .before .before .before .before .before .before .before .before .before .args in symbol-yes (a .base) (now (a .word)) (c .before .before .before .before .before .before .before .if1 .left) (c .before .before .before .before .before .before .is-identifier .ensures) (c .before .before .before .before .before .if2 .left) (c .before .before .before .before .is-symbolic .ensures) (c .before .before .before .if3 .taken) (c .before .before .no-numeral .ensures) (c .before .if4 .taken) (c .no-double .ensures)
@@ -43,11 +25,11 @@ symbol-stands-spec =
     tie.close
     (tie.spec
     returns
-    is-identifier-requires
+    (λ c κs. search needs)
     returns-2
-    is-symbolic-requires
-    no-numeral-requires
-    no-double-requires
+    (λ c κs. search needs)
+    (λ c κs. search needs)
+    (λ c κs. search needs)
     returns-3
     returns-4
     returns-5)

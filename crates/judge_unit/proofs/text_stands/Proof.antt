@@ -4,19 +4,13 @@ use borrow.Author.Tests.{le-leb, lt-leb}
 use Rattle.laws.specs.Lists.{allAt}
 use Rattle.judge_unit.proofs.text_stands.Statement.{statement}
 use Rattle.judge_unit.proofs.text_stands.Tie as tie
-use Rattle.judge_unit.proofs.text_stands.Reads as reads
-use Rattle.judge_unit.proofs.text_stands.Lts as lts
-use Rattle.judge_unit.proofs.all_permitted.Reads as all-permitted-reads
 
 returns : tie.Need-returns
 returns c = rw (lt-leb _ _ (c .if1 .taken))
-
-all-permitted-requires : tie.Need-all-permitted-requires
-all-permitted-requires c κs = search needs
 
 returns-2 : tie.Need-returns-2
 unfolding allAt
 returns-2 c = rw (le-leb _ _ (c .before .if1 .left)) (c .all-permitted .ensures)
 
 pub text-stands-spec : {M : Type 1} → statement M
-text-stands-spec = tie.close (tie.spec returns all-permitted-requires returns-2)
+text-stands-spec = tie.close (tie.spec returns (λ c κs. search needs) returns-2)

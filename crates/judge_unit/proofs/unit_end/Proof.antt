@@ -10,27 +10,15 @@ use Rattle.judge_unit.proofs.UnitLaws.{ends-there, decimal-found}
 use Rattle.judge_unit.proofs.unit_end.Statement.{statement}
 use Rattle.judge_unit.proofs.unit_end.Tie as tie
 
-any-unit-requires : tie.Need-any-unit-requires
-any-unit-requires c κs = search needs
-
 returns : tie.Need-returns
 returns c =
     let a = c .before .before .before .args in
     subst (λ (b : ℕ). IsUnit (baseAt b) (now (a .rec)) (a .at) (c .any-unit .result)) (sym (c .before .if1 .taken)) (c .any-unit .ensures)
 
-is-decimal-requires : tie.Need-is-decimal-requires
-is-decimal-requires c κs = search needs
-
-add-result : tie.Need-add-result
-add-result c = search needs
-
 returns-2 : tie.Need-returns-2
 returns-2 c =
     let s = c .before .before .before .before in
     ends-there _ (decimal-found (s .args .base) (now (s .args .rec)) (s .args .at) (λ i. omega (arith, c .before .before .before .shared-slice-known .given i)) (s .pre) (c .before .is-decimal .ensures) (c .if2 .taken) (c .before .before .if1 .left))
-
-any-unit-requires-2 : tie.Need-any-unit-requires-2
-any-unit-requires-2 c κs = search needs
 
 returns-3 : tie.Need-returns-3
 returns-3 c = c .any-unit2 .ensures
@@ -39,10 +27,10 @@ pub unit-end-spec : {M : Type 1} → statement M
 unit-end-spec =
     tie.close
     (tie.spec
-    any-unit-requires
+    (λ c κs. search needs)
     returns
-    is-decimal-requires
-    add-result
+    (λ c κs. search needs)
+    (λ c. search needs)
     returns-2
-    any-unit-requires-2
+    (λ c κs. search needs)
     returns-3)

@@ -7,9 +7,6 @@ use Rattle.judge_value.specs.Elements.{joins}
 use Rattle.judge_value.proofs.joins.Statement.{statement}
 use Rattle.judge_value.proofs.joins.Tie as tie
 
-sub-if1 : tie.Need-sub-if1
-sub-if1 c = search needs
-
 returns : tie.Need-returns
 unfolding joins
 returns c = let a = c .before .args in rw (lt-leb (a .arguments + (a .more + 1)) 4096 (omega arith))
@@ -26,7 +23,7 @@ pub joins-spec : {M : Type 1} → statement M
 joins-spec =
     tie.close
     (tie.spec
-    sub-if1
+    (λ c. search needs)
     returns
     returns-2
     returns-3)

@@ -29,12 +29,6 @@ bytes-small c i = omega (arith, c .before .before .before .before .before .befor
 field-at-requires : tie.Need-field-at-requires
 field-at-requires c κs = let s = c .before in omega (arith, element-inside (now (s .args .rec)) (s .args .at) (s .pre))
 
-enum-known-start : tie.Need-enum-known-start
-enum-known-start c = search needs
-
-enum-told : tie.Need-enum-told
-enum-told c = search needs
-
 returns : tie.Need-returns
 returns c =
     let a = c .before .before .before .before .args in
@@ -42,12 +36,6 @@ returns c =
 
 judge-units-requires : tie.Need-judge-units-requires
 judge-units-requires c κs = the-field c .inside
-
-enum-known-count : tie.Need-enum-known-count
-enum-known-count c = search needs
-
-enum-told-2 : tie.Need-enum-told-2
-enum-told-2 c = search needs
 
 returns-2 : tie.Need-returns-2
 returns-2 c =
@@ -70,18 +58,12 @@ range-terms-requires c κs =
       lower-room (baseAt (s .args .base)) (now (s .args .rec)) (c .before .before .count .given .0 .1 .0) (u .u) (c .before .before .count .given .0 .1 .1 .0) (bytes-small (c .before)) (u .last),
     )
 
-enum-known-more : tie.Need-enum-known-more
-enum-known-more c = search needs
-
 returns-4 : tie.Need-returns-4
 returns-4 c =
     let e = c .before .before .before .before in
     let f = the-field (e .before .before .before .before .before) in
     range-is f (the-units (e .before)) (range-tag f (e .before .before .before .before .before .before .before .before .before .before .pre) (e .if1 .left)) (bytes-small (e .before))
     (sym (c .before .more .given .1) ∙ c .before .before .before .range-terms .ensures)
-
-enum-told-3 : tie.Need-enum-told-3
-enum-told-3 c = search needs
 
 returns-5 : tie.Need-returns-5
 returns-5 c =
@@ -95,16 +77,16 @@ judge-element-spec =
     tie.close
     (tie.spec
     field-at-requires
-    enum-known-start
-    enum-told
+    (λ c. search needs)
+    (λ c. search needs)
     returns
     judge-units-requires
-    enum-known-count
-    enum-told-2
+    (λ c. search needs)
+    (λ c. search needs)
     returns-2
     returns-3
     range-terms-requires
-    enum-known-more
+    (λ c. search needs)
     returns-4
-    enum-told-3
+    (λ c. search needs)
     returns-5)

@@ -24,20 +24,11 @@ one-more c =
     let a = c .before .before .before .before .before .before .before .before .before .before .args in
     unit-yes (baseAt (a .base)) (now (a .rec)) (c .before .before .before .before .before .before .loop .at) _ (c .before .unit-end2 .ensures) (c .if4 .left)
 
-unit-end-requires : tie.Need-unit-end-requires Inv-loop μ-loop
-unit-end-requires c κs = search needs
-
 returns : tie.Need-returns Inv-loop μ-loop
 returns c = let a = c .before .before .before .args in units-none _ _ (unit-no (baseAt (a .base)) (now (a .rec)) (a .from) _ (c .before .unit-end .ensures) (c .if1 .taken))
 
 loop-holds : tie.Need-loop-holds Inv-loop μ-loop
 loop-holds c = let a = c .before .before .before .args in units-first (unit-yes (baseAt (a .base)) (now (a .rec)) (a .from) _ (c .before .unit-end .ensures) (c .if1 .left))
-
-head-tag-requires : tie.Need-head-tag-requires Inv-loop μ-loop
-head-tag-requires c κs = search needs
-
-is-unit-requires : tie.Need-is-unit-requires Inv-loop μ-loop
-is-unit-requires c κs = search needs
 
 returns-2 : tie.Need-returns-2 Inv-loop μ-loop
 returns-2 c = units-full (c .before .before .before .before .loop .inv) (c .before .before .before .head-tag .ensures) (c .before .before .is-unit .ensures) (c .before .if2 .taken) (c .if3 .taken)
@@ -71,11 +62,11 @@ judge-units-spec =
     (tie.spec
     Inv-loop
     μ-loop
-    unit-end-requires
+    (λ c κs. search needs)
     returns
     loop-holds
-    head-tag-requires
-    is-unit-requires
+    (λ c κs. search needs)
+    (λ c κs. search needs)
     returns-2
     unit-end-requires-2
     returns-3

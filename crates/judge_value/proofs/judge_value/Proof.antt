@@ -25,23 +25,11 @@ the-element c = subst (IsElement (baseAt (c .before .before .before .before .bef
 loop-holds : tie.Need-loop-holds Inv-loop μ-loop
 loop-holds c = value-none _ _ _ (c .before .pre)
 
-head-tag-requires : tie.Need-head-tag-requires Inv-loop μ-loop
-head-tag-requires c κs = search needs
-
-is-element-requires : tie.Need-is-element-requires Inv-loop μ-loop
-is-element-requires c κs = search needs
-
 returns : tie.Need-returns Inv-loop μ-loop
 returns c = value-full (c .before .before .before .before .loop .inv) (c .before .before .before .head-tag .ensures) (c .before .before .is-element .ensures) (c .before .if1 .taken) (c .if2 .taken)
 
 judge-element-requires : tie.Need-judge-element-requires Inv-loop μ-loop
 judge-element-requires c κs = ap isElement (sym (c .before .before .before .head-tag .ensures)) ∙ sym (c .before .before .is-element .ensures) ∙ c .before .if1 .taken
-
-enum-known-count : tie.Need-enum-known-count Inv-loop μ-loop
-enum-known-count c = search needs
-
-enum-told : tie.Need-enum-told Inv-loop μ-loop
-enum-told c = search needs
 
 returns-2 : tie.Need-returns-2 Inv-loop μ-loop
 returns-2 c = let l = c .before .before .before .before .before .before .before .loop in value-bad (l .inv) (c .before .before .before .before .before .before .head-tag .ensures) (c .before .before .before .before .before .is-element .ensures) (l .left - 1) (c .before .before .before .before .if1 .taken) (omega arith) (subst (IsElement (baseAt (c .before .before .before .before .before .before .before .before .before .args .base)) (now (c .before .before .before .before .before .before .before .before .before .args .rec)) (l .at)) (c .enum-told .given .1) (c .before .before .judge-element .ensures))
@@ -54,12 +42,6 @@ add-arguments c = let l = c .before .before .before .before .before .before .bef
 
 add-arguments-2 : tie.Need-add-arguments-2 Inv-loop μ-loop
 add-arguments-2 c = let l = c .before .before .before .before .before .before .before .before .before .before .loop in record { fits = omega (arith, sum-few (l .inv) (c .before .before .before .before .before .before .before .before .before .head-tag .ensures) (c .before .before .before .before .before .before .before .before .is-element .ensures) (the-element (c .before .before)) (c .before .joins .ensures) (c .if3 .taken)) }
-
-sub-left : tie.Need-sub-left Inv-loop μ-loop
-sub-left c = search needs
-
-loop-less : tie.Need-loop-less Inv-loop μ-loop
-loop-less c = search needs
 
 loop-again : tie.Need-loop-again Inv-loop μ-loop
 loop-again c = let l = c .before .before .before .before .before .before .before .before .before .before .loop in value-more (l .inv) (c .before .before .before .before .before .before .before .before .before .head-tag .ensures) (c .before .before .before .before .before .before .before .before .is-element .ensures) (the-element (c .before .before)) (c .before .joins .ensures) (l .left - 1) (c .before .before .before .before .before .before .before .if1 .taken) (omega arith) (c .if3 .taken)
@@ -77,18 +59,18 @@ judge-value-spec =
     Inv-loop
     μ-loop
     loop-holds
-    head-tag-requires
-    is-element-requires
+    (λ c κs. search needs)
+    (λ c κs. search needs)
     returns
     judge-element-requires
-    enum-known-count
-    enum-told
+    (λ c. search needs)
+    (λ c. search needs)
     returns-2
     joins-requires
     add-arguments
     add-arguments-2
-    sub-left
-    loop-less
+    (λ c. search needs)
+    (λ c. search needs)
     loop-again
     returns-3
     returns-4)

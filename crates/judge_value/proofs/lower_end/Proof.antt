@@ -6,15 +6,9 @@ use Rattle.judge_value.specs.Elements.{lowerAt}
 use Rattle.judge_value.proofs.lower_end.Statement.{statement}
 use Rattle.judge_value.proofs.lower_end.Tie as tie
 
-shared-slice-read-if1 : tie.Need-shared-slice-read-if1
-shared-slice-read-if1 c = search needs
-
 returns : tie.Need-returns
 unfolding lowerAt
 returns c = rw (ne-eqb _ _ (c .if1 .taken))
-
-add-if2 : tie.Need-add-if2
-add-if2 c = search needs
 
 shared-slice-read-if2 : tie.Need-shared-slice-read-if2
 shared-slice-read-if2 c = omega (arith, c .before .before .before .before .pre .1 (c .before .if1 .left))
@@ -22,9 +16,6 @@ shared-slice-read-if2 c = omega (arith, c .before .before .before .before .pre .
 returns-2 : tie.Need-returns-2
 unfolding lowerAt
 returns-2 c = rw (eq-eqb _ _ (c .before .before .if1 .left), ne-eqb _ _ (c .if2 .taken))
-
-add-number-at : tie.Need-add-number-at
-add-number-at c = search needs
 
 number-at-requires : tie.Need-number-at-requires
 number-at-requires c κs = omega (arith, c .before .before .before .before .before .pre .1 (c .before .before .if1 .left))
@@ -37,11 +28,11 @@ pub lower-end-spec : {M : Type 1} → statement M
 lower-end-spec =
     tie.close
     (tie.spec
-    shared-slice-read-if1
+    (λ c. search needs)
     returns
-    add-if2
+    (λ c. search needs)
     shared-slice-read-if2
     returns-2
-    add-number-at
+    (λ c. search needs)
     number-at-requires
     returns-3)

@@ -6,15 +6,6 @@ use Rattle.judge_value.specs.Elements.{moreOf}
 use Rattle.judge_value.proofs.more_terms.Statement.{statement}
 use Rattle.judge_value.proofs.more_terms.Tie as tie
 
-number-at-requires : tie.Need-number-at-requires
-number-at-requires c κs = search needs
-
-add-number-at : tie.Need-add-number-at
-add-number-at c = search needs
-
-number-at-requires-2 : tie.Need-number-at-requires-2
-number-at-requires-2 c κs = search needs
-
 returns : tie.Need-returns
 unfolding moreOf
 returns c = rw (← c .before .before .number-at .ensures, lt-leb _ _ (c .if1 .taken))
@@ -22,9 +13,6 @@ returns c = rw (← c .before .before .number-at .ensures, lt-leb _ _ (c .if1 .t
 returns-2 : tie.Need-returns-2
 unfolding moreOf
 returns-2 c = let n = c .before .before .number-at2 in rw (← c .before .before .before .number-at .ensures, ← n .ensures, le-leb _ _ (c .before .if1 .left), lt-leb 1 (n .result) (omega arith))
-
-div-t9 : tie.Need-div-t9
-div-t9 c = search needs
 
 returns-3 : tie.Need-returns-3
 unfolding moreOf
@@ -34,10 +22,10 @@ pub more-terms-spec : {M : Type 1} → statement M
 more-terms-spec =
     tie.close
     (tie.spec
-    number-at-requires
-    add-number-at
-    number-at-requires-2
+    (λ c κs. search needs)
+    (λ c. search needs)
+    (λ c κs. search needs)
     returns
     returns-2
-    div-t9
+    (λ c. search needs)
     returns-3)

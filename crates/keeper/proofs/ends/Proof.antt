@@ -4,9 +4,6 @@ use Rattle.keeper.proofs.SpotLaws.{here-semi, here-other}
 use Rattle.keeper.proofs.ends.Statement.{statement}
 use Rattle.keeper.proofs.ends.Tie as tie
 
-is-outside-requires : tie.Need-is-outside-requires
-is-outside-requires c κs = search needs
-
 returns : tie.Need-returns
 returns c = search (needs, here-semi)
 
@@ -14,4 +11,4 @@ returns-2 : tie.Need-returns-2
 returns-2 c = search (needs, here-other)
 
 pub ends-spec : {M : Type 1} → statement M
-ends-spec = tie.close (tie.spec is-outside-requires returns returns-2)
+ends-spec = tie.close (tie.spec (λ c κs. search needs) returns returns-2)

@@ -7,15 +7,6 @@ use Rattle.keeper.proofs.is_ready.Tie as tie
 returns : tie.Need-returns
 returns c = search (needs, none-held)
 
-sub-last : tie.Need-sub-last
-sub-last c = search needs
-
-shared-slice-read-if2 : tie.Need-shared-slice-read-if2
-shared-slice-read-if2 c = search needs
-
-ends-first-requires : tie.Need-ends-first-requires
-ends-first-requires c κs = search needs
-
 returns-2 : tie.Need-returns-2
 returns-2 c = search (needs, last-semi)
 
@@ -25,4 +16,4 @@ returns-3 c = search (needs, last-other)
 pub is-ready-spec : {M : Type 1} → statement M
 is-ready-spec =
     tie.close
-    (tie.spec returns sub-last shared-slice-read-if2 ends-first-requires returns-2 returns-3)
+    (tie.spec returns (λ c. search needs) (λ c. search needs) (λ c κs. search needs) returns-2 returns-3)

@@ -5,26 +5,11 @@ use Rattle.keeper.proofs.KeyLaws.{key-over, key-cancel, key-back, key-f
 use Rattle.keeper.proofs.key.Statement.{statement}
 use Rattle.keeper.proofs.key.Tie as tie
 
-not-taken-requires : tie.Need-not-taken-requires
-not-taken-requires c κs = search needs
-
 returns : tie.Need-returns
 returns c = key-over (c .before .before .args .keeper) (c .before .before .args .key) (c .before .if1 .taken) (c .not-taken .ensures)
 
-taken-requires : tie.Need-taken-requires
-taken-requires c κs = search needs
-
 returns-2 : tie.Need-returns-2
 returns-2 c = let b = c .before .before in key-cancel (b .before .args .keeper) (b .before .args .key) (omega (arith, b .if1 .left)) (c .before .if2 .taken) (c .taken .ensures)
-
-is-ready-requires : tie.Need-is-ready-requires
-is-ready-requires c κs = search needs
-
-start-requires : tie.Need-start-requires
-start-requires c κs = search needs
-
-less-one-requires : tie.Need-less-one-requires
-less-one-requires c κs = search needs
 
 taken-requires-2 : tie.Need-taken-requires-2
 taken-requires-2 c κs =
@@ -38,26 +23,11 @@ returns-3 c =
     let b = s .before .before .before .before .before .before in
     key-back (b .before .args .keeper) (b .before .args .key) (omega (arith, b .if1 .left)) (s .before .is-ready .ensures) (s .start .ensures) (c .before .before .if3 .taken) (c .before .less-one .ensures) (c .taken2 .ensures)
 
-not-taken-requires-2 : tie.Need-not-taken-requires-2
-not-taken-requires-2 c κs = search needs
-
 returns-4 : tie.Need-returns-4
 returns-4 c =
     let s = c .before .before .before in
     let b = s .before .before .before .before .before .before in
     key-full (b .before .args .keeper) (b .before .args .key) (omega (arith, b .if1 .left)) (s .before .is-ready .ensures) (s .start .ensures) (c .before .before .if3 .left) (s .before .before .before .before .before .if2 .left) (c .before .if4 .taken) (c .not-taken2 .ensures)
-
-cast-at : tie.Need-cast-at
-cast-at c = search needs
-
-element-write-after : tie.Need-element-write-after
-element-write-after c = search needs
-
-add-after : tie.Need-add-after
-add-after c = search needs
-
-taken-requires-3 : tie.Need-taken-requires-3
-taken-requires-3 c κs = search needs
 
 returns-5 : tie.Need-returns-5
 returns-5 c =
@@ -69,19 +39,19 @@ pub key-spec : {M : Type 1} → statement M
 key-spec =
     tie.close
     (tie.spec
-    not-taken-requires
+    (λ c κs. search needs)
     returns
-    taken-requires
+    (λ c κs. search needs)
     returns-2
-    is-ready-requires
-    start-requires
-    less-one-requires
+    (λ c κs. search needs)
+    (λ c κs. search needs)
+    (λ c κs. search needs)
     taken-requires-2
     returns-3
-    not-taken-requires-2
+    (λ c κs. search needs)
     returns-4
-    cast-at
-    element-write-after
-    add-after
-    taken-requires-3
+    (λ c. search needs)
+    (λ c. search needs)
+    (λ c. search needs)
+    (λ c κs. search needs)
     returns-5)

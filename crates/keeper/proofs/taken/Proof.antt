@@ -6,14 +6,8 @@ use mathlib.Core.Path.{ap, _∙_}
 use Rattle.keeper.proofs.taken.Statement.{statement}
 use Rattle.keeper.proofs.taken.Tie as tie
 
-is-ready-requires : tie.Need-is-ready-requires
-is-ready-requires c κs = search needs
-
-flagged-requires : tie.Need-flagged-requires
-flagged-requires c κs = search needs
-
 returns : tie.Need-returns
 returns c = let e = c .flagged .ensures ∙ ap flag (c .before .is-ready .ensures) in ap (λ n. record { keeper = c .before .before .before .before .before .args .t1; answer = Done n }) e
 
 pub taken-spec : {M : Type 1} → statement M
-taken-spec = tie.close (tie.spec is-ready-requires flagged-requires returns)
+taken-spec = tie.close (tie.spec (λ c κs. search needs) (λ c κs. search needs) returns)

@@ -4,38 +4,17 @@ use borrow.Author.Tests.{eq-eqb, ne-eqb}
 use Rattle.keeper.proofs.turn.Statement.{statement}
 use Rattle.keeper.proofs.turn.Tie as tie
 
-enum-told : tie.Need-enum-told
-enum-told c = search needs
-
-opening-requires : tie.Need-opening-requires
-opening-requires c κs = search needs
-
-enum-told-2 : tie.Need-enum-told-2
-enum-told-2 c = search needs
-
 returns : tie.Need-returns
 returns c = rw (c .before .enum-told2 .given .1, eq-eqb _ _ (c .if1 .taken))
 
-opening-requires-2 : tie.Need-opening-requires-2
-opening-requires-2 c κs = search needs
-
-enum-told-3 : tie.Need-enum-told-3
-enum-told-3 c = search needs
-
 returns-2 : tie.Need-returns-2
 returns-2 c = rw (c .before .enum-told3 .given .1, eq-eqb _ _ (c .if2 .taken))
-
-enum-told-4 : tie.Need-enum-told-4
-enum-told-4 c = search needs
 
 returns-3 : tie.Need-returns-3
 returns-3 c = rw (c .before .enum-told4 .given .1, eq-eqb _ _ (c .if3 .taken))
 
 returns-4 : tie.Need-returns-4
 returns-4 c = rw (c .before .before .enum-told4 .given .1, ne-eqb _ _ (c .before .if3 .left), eq-eqb _ _ (c .if4 .taken))
-
-enum-told-5 : tie.Need-enum-told-5
-enum-told-5 c = search needs
 
 returns-5 : tie.Need-returns-5
 returns-5 c = rw (c .before .enum-told5 .given .1, eq-eqb _ _ (c .if5 .taken))
@@ -59,17 +38,17 @@ pub turn-spec : {M : Type 1} → statement M
 turn-spec =
     tie.close
     (tie.spec
-    enum-told
-    opening-requires
-    enum-told-2
+    (λ c. search needs)
+    (λ c κs. search needs)
+    (λ c. search needs)
     returns
-    opening-requires-2
-    enum-told-3
+    (λ c κs. search needs)
+    (λ c. search needs)
     returns-2
-    enum-told-4
+    (λ c. search needs)
     returns-3
     returns-4
-    enum-told-5
+    (λ c. search needs)
     returns-5
     returns-6
     returns-7

@@ -4,18 +4,6 @@ use borrow.Author.Needs.{needs}
 use Rattle.marks.proofs.add.Statement.{statement}
 use Rattle.marks.proofs.add.Tie as tie
 
-with-bit-requires : tie.Need-with-bit-requires
-with-bit-requires c κs = search needs
-
-with-bit-requires-2 : tie.Need-with-bit-requires-2
-with-bit-requires-2 c κs = search needs
-
-with-bit-requires-3 : tie.Need-with-bit-requires-3
-with-bit-requires-3 c κs = search needs
-
-with-bit-requires-4 : tie.Need-with-bit-requires-4
-with-bit-requires-4 c κs = search needs
-
 returns : tie.Need-returns
 unfolding added
 returns c = rw (c .before .before .before .with-bit .ensures, c .before .before .with-bit2 .ensures, c .before .with-bit3 .ensures, c .with-bit4 .ensures)
@@ -24,8 +12,8 @@ pub add-spec : {M : Type 1} → statement M
 add-spec =
     tie.close
     (tie.spec
-    with-bit-requires
-    with-bit-requires-2
-    with-bit-requires-3
-    with-bit-requires-4
+    (λ c κs. search needs)
+    (λ c κs. search needs)
+    (λ c κs. search needs)
+    (λ c κs. search needs)
     returns)

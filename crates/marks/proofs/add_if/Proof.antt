@@ -3,9 +3,6 @@ use borrow.Author.Needs.{needs}
 use Rattle.marks.proofs.add_if.Statement.{statement}
 use Rattle.marks.proofs.add_if.Tie as tie
 
-add-requires : tie.Need-add-requires
-add-requires c κs = search needs
-
 returns : tie.Need-returns
 returns c = rw (c .before .if1 .taken) (c .add .ensures)
 
@@ -13,4 +10,4 @@ returns-2 : tie.Need-returns-2
 returns-2 c = rw (c .if1 .left)
 
 pub add-if-spec : {M : Type 1} → statement M
-add-if-spec = tie.close (tie.spec add-requires returns returns-2)
+add-if-spec = tie.close (tie.spec (λ c κs. search needs) returns returns-2)

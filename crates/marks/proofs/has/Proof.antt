@@ -6,12 +6,6 @@ use borrow.Author.Needs.{needs}
 use Rattle.marks.proofs.has.Statement.{statement}
 use Rattle.marks.proofs.has.Tie as tie
 
-has-both-requires : tie.Need-has-both-requires
-has-both-requires c κs = search needs
-
-has-both-requires-2 : tie.Need-has-both-requires-2
-has-both-requires-2 c κs = search needs
-
 returns : tie.Need-returns
 unfolding marked
 returns c = let m = c .before .before .before .args .marks in let k = c .before .before .before .args .key in both-yes (hasBoth (m .first) (m .second) k) (hasBoth (m .third) (m .fourth) (k / 4096)) (c .before .before .has-both .ensures) (c .before .if1 .taken) (c .has-both2 .ensures)
@@ -21,4 +15,4 @@ unfolding marked
 returns-2 c = let m = c .before .before .args .marks in let k = c .before .before .args .key in both-no (hasBoth (m .first) (m .second) k) (hasBoth (m .third) (m .fourth) (k / 4096)) (c .before .has-both .ensures) (c .if1 .left)
 
 pub has-spec : {M : Type 1} → statement M
-has-spec = tie.close (tie.spec has-both-requires has-both-requires-2 returns returns-2)
+has-spec = tie.close (tie.spec (λ c κs. search needs) (λ c κs. search needs) returns returns-2)

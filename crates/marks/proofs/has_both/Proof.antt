@@ -6,12 +6,6 @@ use borrow.Author.Needs.{needs}
 use Rattle.marks.proofs.has_both.Statement.{statement}
 use Rattle.marks.proofs.has_both.Tie as tie
 
-has-bit-requires : tie.Need-has-bit-requires
-has-bit-requires c κs = search needs
-
-has-bit-requires-2 : tie.Need-has-bit-requires-2
-has-bit-requires-2 c κs = search needs
-
 returns : tie.Need-returns
 returns c = let a = c .before .before .before .args in both-yes (hasBit (a .one) (a .parts)) (hasBit (a .other) (a .parts / 64)) (c .before .before .has-bit .ensures) (c .before .if1 .taken) (c .has-bit2 .ensures)
 
@@ -19,4 +13,4 @@ returns-2 : tie.Need-returns-2
 returns-2 c = let a = c .before .before .args in both-no (hasBit (a .one) (a .parts)) (hasBit (a .other) (a .parts / 64)) (c .before .has-bit .ensures) (c .if1 .left)
 
 pub has-both-spec : {M : Type 1} → statement M
-has-both-spec = tie.close (tie.spec has-bit-requires has-bit-requires-2 returns returns-2)
+has-both-spec = tie.close (tie.spec (λ c κs. search needs) (λ c κs. search needs) returns returns-2)

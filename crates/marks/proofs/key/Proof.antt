@@ -11,30 +11,6 @@ returns : tie.Need-returns
 unfolding keyOf
 returns c = rw (eq-eqb (length (now (c .before .before .args .word))) 0 (c .if1 .taken))
 
-shared-slice-read-mixed : tie.Need-shared-slice-read-mixed
-shared-slice-read-mixed c = search needs
-
-sub-mixed : tie.Need-sub-mixed
-sub-mixed c = search needs
-
-shared-slice-read-mixed-2 : tie.Need-shared-slice-read-mixed-2
-shared-slice-read-mixed-2 c = search needs
-
-but-one-requires : tie.Need-but-one-requires
-but-one-requires c κs = search needs
-
-shared-slice-read-mixed-3 : tie.Need-shared-slice-read-mixed-3
-shared-slice-read-mixed-3 c = search needs
-
-sub-mixed-2 : tie.Need-sub-mixed-2
-sub-mixed-2 c = search needs
-
-shared-slice-read-mixed-4 : tie.Need-shared-slice-read-mixed-4
-shared-slice-read-mixed-4 c = search needs
-
-mixed-requires : tie.Need-mixed-requires
-mixed-requires c κs = search needs
-
 returns-2 : tie.Need-returns-2
 unfolding keyOf
 returns-2 c =
@@ -46,12 +22,12 @@ key-spec =
     tie.close
     (tie.spec
     returns
-    shared-slice-read-mixed
-    sub-mixed
-    shared-slice-read-mixed-2
-    but-one-requires
-    shared-slice-read-mixed-3
-    sub-mixed-2
-    shared-slice-read-mixed-4
-    mixed-requires
+    (λ c. search needs)
+    (λ c. search needs)
+    (λ c. search needs)
+    (λ c κs. search needs)
+    (λ c. search needs)
+    (λ c. search needs)
+    (λ c. search needs)
+    (λ c κs. search needs)
     returns-2)

@@ -6,14 +6,8 @@ use borrow.Author.Needs.{needs}
 use Rattle.marks.proofs.with_bit.Statement.{statement}
 use Rattle.marks.proofs.with_bit.Tie as tie
 
-cast-result : tie.Need-cast-result
-cast-result c = search needs
-
-shl-result : tie.Need-shl-result
-shl-result c = search needs
-
 returns : tie.Need-returns
 returns c = ap (bitOr (c .args .number)) (shifted (c .args .part))
 
 pub with-bit-spec : {M : Type 1} → statement M
-with-bit-spec = tie.close (tie.spec cast-result shl-result returns)
+with-bit-spec = tie.close (tie.spec (λ c. search needs) (λ c. search needs) returns)

@@ -9,21 +9,6 @@ use denote.Ref.{now}
 use Rattle.order.proofs.changed_len.Statement.{statement}
 use Rattle.order.proofs.changed_len.Tie as tie
 
-sub-result : tie.Need-sub-result
-sub-result c = search needs
-
-sub-argument-len : tie.Need-sub-argument-len
-sub-argument-len c = search needs
-
-part-argument-len-start : tie.Need-part-argument-len-start
-part-argument-len-start c = search needs
-
-part-argument-len-end : tie.Need-part-argument-len-end
-part-argument-len-end c = search needs
-
-argument-len-requires : tie.Need-argument-len-requires
-argument-len-requires c κs = search needs
-
 add-result : tie.Need-add-result
 add-result c = omega (arith, c .argument-len .ensures (c .before .before .before .args .argument .term), argument-short (bytesIn (now (c .before .before .before .args .rec)) (c .before .before .before .args .argument .start) (c .before .before .before .args .argument .end)) (c .before .before .before .args .argument .term), bytes-long (now (c .before .before .before .args .rec)) (c .before .before .before .args .argument .start) (c .before .before .before .args .argument .end) (c .before .before .before .pre .end) (c .before .before .before .pre .inside), c .before .before .before .pre)
 
@@ -34,10 +19,10 @@ pub changed-len-spec : {M : Type 1} → statement M
 changed-len-spec =
     tie.close
     (tie.spec
-    sub-result
-    sub-argument-len
-    part-argument-len-start
-    part-argument-len-end
-    argument-len-requires
+    (λ c. search needs)
+    (λ c. search needs)
+    (λ c. search needs)
+    (λ c. search needs)
+    (λ c κs. search needs)
     add-result
     returns)

@@ -18,12 +18,6 @@ abbrev μ-loop : tie.MeasureT-loop
 loop-holds : tie.Need-loop-holds Inv-loop μ-loop
 loop-holds c = measuring-none (now (c .before .before .args .rec)) (now (c .before .before .args .row)) (c .before .before .pre)
 
-mul-position : tie.Need-mul-position Inv-loop μ-loop
-mul-position c = search needs
-
-shared-slice-read-position : tie.Need-shared-slice-read-position Inv-loop μ-loop
-shared-slice-read-position c = search needs
-
 add-value : tie.Need-add-value Inv-loop μ-loop
 add-value c = omega (arith, (measuring-turn (c .before .before .before .loop .inv) (c .before .before .loop-test .taken)) .three)
 
@@ -35,9 +29,6 @@ shared-slice-read-value c = omega (arith, (measuring-turn (c .before .before .be
 
 cast-value : tie.Need-cast-value Inv-loop μ-loop
 cast-value c = omega (arith, c .shared-slice-known4 .given (c .before .before .before .before .loop .i + 1))
-
-cast-nth-argument : tie.Need-cast-nth-argument Inv-loop μ-loop
-cast-nth-argument c = search needs
 
 nth-argument-requires : tie.Need-nth-argument-requires Inv-loop μ-loop
 nth-argument-requires c κs = (measuring-turn (c .before .before .before .before .loop .inv) (c .before .before .before .loop-test .taken)) .whole
@@ -94,13 +85,13 @@ measure-spec =
     Inv-loop
     μ-loop
     loop-holds
-    mul-position
-    shared-slice-read-position
+    (λ c. search needs)
+    (λ c. search needs)
     add-value
     mul-value
     shared-slice-read-value
     cast-value
-    cast-nth-argument
+    (λ c. search needs)
     nth-argument-requires
     changed-len-requires
     add-len

@@ -26,23 +26,8 @@ long c = omega (arith, good c .long, good c .few)
 told : (c : tie.After-places) → Told (now (c .before .before .before .before .before .before .before .args .rec)) (take (perPlace * c .places .given .0 .0) (c .before .before .before .judge .last .1 .0))
 told c = record { tree = good c .tree; is = good c .is; told = good c .told (omega arith) }
 
-slice-aggregate-judge : tie.Need-slice-aggregate-judge
-slice-aggregate-judge c = search needs
-
-judge-requires : tie.Need-judge-requires
-judge-requires c κs = search needs
-
-enum-known-places : tie.Need-enum-known-places
-enum-known-places c = search needs
-
-enum-told : tie.Need-enum-told
-enum-told c = search needs
-
 returns : tie.Need-returns
 returns c = order-bad (now (c .before .before .before .before .before .before .before .args .rec)) (c .before .before .before .before .before .before .before .args .k) (now (c .before .before .before .before .before .before .before .args .out)) (subst (Judges (now (c .before .before .before .before .before .before .before .args .rec)) (replicate rowLength 0) (c .before .before .before .judge .last .1 .0)) (c .enum-told .given .1) (c .before .before .before .judge .ensures))
-
-cast-if1 : tie.Need-cast-if1
-cast-if1 c = search needs
 
 returns-2 : tie.Need-returns-2
 returns-2 c = let g = good (c .before .before) in order-past (now (c .before .before .before .before .before .before .before .before .before .args .rec)) (c .before .before .before .before .before .before .before .before .before .args .k) (now (c .before .before .before .before .before .before .before .before .before .args .out)) (g .tree) (g .is) (g .total) (c .if1 .taken)
@@ -56,9 +41,6 @@ array-borrow-prefix-row c = (long (c .before .before))
 slice-aggregate-positions : tie.Need-slice-aggregate-positions
 slice-aggregate-positions c = sym (length-take-le (perPlace * c .before .before .before .places .given .0 .0) (c .before .before .before .before .before .before .judge .last .1 .0) (long (c .before .before .before)))
 
-cast-positions : tie.Need-cast-positions
-cast-positions c = search needs
-
 positions-requires : tie.Need-positions-requires
 positions-requires c κs = told (c .before .before .before)
 
@@ -71,9 +53,6 @@ slice-aggregate-put-order c = sym (length-take-le (perPlace * c .before .before 
 put-order-requires : tie.Need-put-order-requires
 put-order-requires c κs = subst (Planned (now (c .before .before .before .before .before .before .before .before .before .before .before .before .before .before .args .rec))) (sym (front-is (c .before .before .before .before .before .before .before .before .before .before .judge .last .1 .0) (c .before .before .before .positions .last .1 .0) (long (c .before .before .before .before .before .before .before)) (c .before .before .before .positions .kept .1 .0))) (c .before .before .before .positions .ensures .planned)
 
-same-length : tie.Need-same-length
-same-length c = search needs
-
 returns-3 : tie.Need-returns-3
 returns-3 c = let g = good (c .before .before .before .before .before .before .before .before .before .before) in order-at (now (c .before .before .before .before .before .before .before .before .before .before .before .before .before .before .before .before .before .args .rec)) (c .before .before .before .before .before .before .before .before .before .before .before .before .before .before .before .before .before .args .k) (now (c .before .before .before .before .before .before .before .before .before .before .before .before .before .before .before .before .before .args .out)) (g .tree) (g .is) (g .total) (c .before .before .before .before .before .before .before .before .if1 .left) (subst (Plans (now (c .before .before .before .before .before .before .before .before .before .before .before .before .before .before .before .before .before .args .rec)) (c .before .before .before .before .before .before .before .before .before .before .before .before .before .before .before .before .before .args .k)) (sym (front-is (c .before .before .before .before .before .before .before .before .before .before .before .before .before .judge .last .1 .0) (c .before .before .before .before .before .before .positions .last .1 .0) (long (c .before .before .before .before .before .before .before .before .before .before)) (c .before .before .before .before .before .before .positions .kept .1 .0))) (c .before .before .before .before .before .before .positions .ensures)) (c .before .before .put-order .ensures)
 
@@ -81,20 +60,20 @@ pub order-spec : {M : Type 1} → statement M
 order-spec =
     tie.close
     (tie.spec
-    slice-aggregate-judge
-    judge-requires
-    enum-known-places
-    enum-told
+    (λ c. search needs)
+    (λ c κs. search needs)
+    (λ c. search needs)
+    (λ c. search needs)
     returns
-    cast-if1
+    (λ c. search needs)
     returns-2
     mul-told
     array-borrow-prefix-row
     slice-aggregate-positions
-    cast-positions
+    (λ c. search needs)
     positions-requires
     array-share-prefix-row
     slice-aggregate-put-order
     put-order-requires
-    same-length
+    (λ c. search needs)
     returns-3)

@@ -8,18 +8,12 @@ use native.Mathlib.Nat.{mod-lt}
 use Rattle.order.proofs.position.Statement.{statement}
 use Rattle.order.proofs.position.Tie as tie
 
-rem-result : tie.Need-rem-result
-rem-result c = search needs
-
 cast-result : tie.Need-cast-result
 cast-result c = let h : 0 < c .before .before .args .number = omega arith in omega (arith, mod-lt (c .before .before .args .left) h, c .before .before .fits .number)
 
 returns : tie.Need-returns
 unfolding slotFor
 returns c = rw (lt-ltb _ _ (c .if1 .taken))
-
-tag-at-requires : tie.Need-tag-at-requires
-tag-at-requires c κs = search needs
 
 returns-2 : tie.Need-returns-2
 unfolding slotFor
@@ -31,4 +25,4 @@ returns-3 c = rw (le-ltb _ _ (c .before .before .if1 .left), ← c .before .tag-
 
 pub position-spec : {M : Type 1} → statement M
 position-spec =
-    tie.close (tie.spec rem-result cast-result returns tag-at-requires returns-2 returns-3)
+    tie.close (tie.spec (λ c. search needs) cast-result returns (λ c κs. search needs) returns-2 returns-3)

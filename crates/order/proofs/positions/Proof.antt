@@ -36,17 +36,11 @@ slice-read-value c = omega (arith, c .before .before .before .loop .inv .low, pl
 cast-value : tie.Need-cast-value Inv-loop μ-loop
 cast-value c = omega (arith, c .slice-known3 .given (c .before .before .before .loop .i - 3 + 1))
 
-position-requires : tie.Need-position-requires Inv-loop μ-loop
-position-requires c κs = search needs
-
 mul-row : tie.Need-mul-row Inv-loop μ-loop
 mul-row c = omega (arith, c .before .before .before .before .loop .inv .low, placing-long (c .before .before .before .before .loop .inv), placing-some (c .before .before .before .before .loop .inv) (c .before .before .before .loop-test .taken))
 
 slice-write-row : tie.Need-slice-write-row Inv-loop μ-loop
 slice-write-row c = omega (arith, c .before .before .before .before .loop .inv .low, placing-long (c .before .before .before .before .loop .inv), placing-some (c .before .before .before .before .loop .inv) (c .before .before .before .loop-test .taken))
-
-quotient-requires : tie.Need-quotient-requires Inv-loop μ-loop
-quotient-requires c κs = search needs
 
 loop-less : tie.Need-loop-less Inv-loop μ-loop
 loop-less c = omega (arith, c .before .before .before .before .before .loop .inv .low, placing-long (c .before .before .before .before .before .loop .inv), placing-some (c .before .before .before .before .before .loop .inv) (c .before .before .before .before .loop-test .taken))
@@ -78,10 +72,10 @@ positions-spec =
     mul-value
     slice-read-value
     cast-value
-    position-requires
+    (λ c κs. search needs)
     mul-row
     slice-write-row
-    quotient-requires
+    (λ c κs. search needs)
     loop-less
     loop-again
     same-length

@@ -13,18 +13,6 @@ use mathlib.Core.List.{List}
 use Rattle.order.proofs.put_changed.Statement.{statement}
 use Rattle.order.proofs.put_changed.Tie as tie
 
-sub-kept : tie.Need-sub-kept
-sub-kept c = search needs
-
-sub-put-bytes : tie.Need-sub-put-bytes
-sub-put-bytes c = search needs
-
-part-put-bytes-start : tie.Need-part-put-bytes-start
-part-put-bytes-start c = search needs
-
-part-put-bytes-end : tie.Need-part-put-bytes-end
-part-put-bytes-end c = search needs
-
 put-bytes-requires : tie.Need-put-bytes-requires
 put-bytes-requires c κs = omega (arith, bytes-long (now (c .before .before .before .before .args .rec)) (c .before .before .before .before .args .at) (c .before .before .before .before .args .value) (c .before .before .before .before .pre .0 .behind) (omega (arith, c .before .before .before .before .pre .0)), changed-long (now (c .before .before .before .before .args .rec)) (c .before .before .before .before .args .at) (c .before .before .before .before .args .value) (c .before .before .before .before .args .argument) (c .before .before .before .before .pre .0), c .before .before .before .before .pre .1)
 
@@ -34,26 +22,11 @@ sub-put-argument c = omega (arith, changed-long (now (c .before .before .before 
 part-put-argument-start : tie.Need-part-put-argument-start
 part-put-argument-start c = omega (arith, changed-long (now (c .before .before .before .before .before .before .before .args .rec)) (c .before .before .before .before .before .before .before .args .at) (c .before .before .before .before .before .before .before .args .value) (c .before .before .before .before .before .before .before .args .argument) (c .before .before .before .before .before .before .before .pre .0), c .before .before .before .before .before .before .before .pre .1)
 
-part-put-argument-end : tie.Need-part-put-argument-end
-part-put-argument-end c = search needs
-
-sub-put-argument-2 : tie.Need-sub-put-argument-2
-sub-put-argument-2 c = search needs
-
-part-put-argument-start-2 : tie.Need-part-put-argument-start-2
-part-put-argument-start-2 c = search needs
-
-part-put-argument-end-2 : tie.Need-part-put-argument-end-2
-part-put-argument-end-2 c = search needs
-
 put-argument-requires : tie.Need-put-argument-requires
 put-argument-requires c κs = (c .before .before .before .before .before .before .before .before .before .pre .0 .term, omega (arith, length-part (c .before .before .before .before .put-bytes .last .0) (c .before .before .before .before .before .before .before .before .before .args .value - c .before .before .before .before .before .before .before .before .before .args .at), c .before .before .before .before .put-bytes .kept, changed-long (now (c .before .before .before .before .before .before .before .before .before .args .rec)) (c .before .before .before .before .before .before .before .before .before .args .at) (c .before .before .before .before .before .before .before .before .before .args .value) (c .before .before .before .before .before .before .before .before .before .args .argument) (c .before .before .before .before .before .before .before .before .before .pre .0), c .before .before .before .before .before .before .before .before .before .pre .1))
 
 add-result : tie.Need-add-result
 add-result c = omega (arith, c .before .before .put-argument .ensures .0, changed-long (now (c .before .before .before .before .before .before .before .before .before .before .before .before .args .rec)) (c .before .before .before .before .before .before .before .before .before .before .before .before .args .at) (c .before .before .before .before .before .before .before .before .before .before .before .before .args .value) (c .before .before .before .before .before .before .before .before .before .before .before .before .args .argument) (c .before .before .before .before .before .before .before .before .before .before .before .before .pre .0), c .before .before .before .before .before .before .before .before .before .before .before .before .pre .1)
-
-same-length : tie.Need-same-length
-same-length c = search needs
 
 returns : tie.Need-returns
 unfolding changed
@@ -69,18 +42,18 @@ pub put-changed-spec : {M : Type 1} → statement M
 put-changed-spec =
     tie.close
     (tie.spec
-    sub-kept
-    sub-put-bytes
-    part-put-bytes-start
-    part-put-bytes-end
+    (λ c. search needs)
+    (λ c. search needs)
+    (λ c. search needs)
+    (λ c. search needs)
     put-bytes-requires
     sub-put-argument
     part-put-argument-start
-    part-put-argument-end
-    sub-put-argument-2
-    part-put-argument-start-2
-    part-put-argument-end-2
+    (λ c. search needs)
+    (λ c. search needs)
+    (λ c. search needs)
+    (λ c. search needs)
     put-argument-requires
     add-result
-    same-length
+    (λ c. search needs)
     returns)

@@ -15,14 +15,8 @@ put-reduced-requires c κs = (c .before .before .before .before .before .pre, om
 cast-t11 : tie.Need-cast-t11
 cast-t11 c = omega (arith, c .before .before .put-reduced .ensures .0, planned-short (c .before .before .before .before .before .before .before .before .pre), planned-size (c .before .before .before .before .before .before .before .before .pre))
 
-same-length : tie.Need-same-length
-same-length c = search needs
-
 returns : tie.Need-returns
 returns c = room (reduced (now (c .before .before .before .before .before .before .before .before .args .rec)) (positionsIn (now (c .before .before .before .before .before .before .before .before .args .row)))) (now (c .before .before .before .before .before .before .before .before .args .out)) (c .before .before .put-reduced .ensures .0) (omega (arith, c .before .before .put-reduced .ensures .0, planned-short (c .before .before .before .before .before .before .before .before .pre))) (c .before .before .put-reduced .ensures .1)
-
-measure-requires : tie.Need-measure-requires
-measure-requires c κs = search needs
 
 cast-t12 : tie.Need-cast-t12
 cast-t12 c = omega (arith, c .before .measure .ensures, planned-short (c .before .before .before .before .before .before .pre), planned-size (c .before .before .before .before .before .before .pre))
@@ -36,9 +30,6 @@ put-reduced-requires-2 c κs = (c .before .before .before .before .before .befor
 cast-t15 : tie.Need-cast-t15
 cast-t15 c = omega (arith, c .before .before .put-reduced2 .ensures .0, planned-short (c .before .before .before .before .before .before .before .before .before .before .pre), planned-size (c .before .before .before .before .before .before .before .before .before .before .pre))
 
-same-length-2 : tie.Need-same-length-2
-same-length-2 c = search needs
-
 returns-3 : tie.Need-returns-3
 returns-3 c = room (reduced (now (c .before .before .before .before .before .before .before .before .before .before .args .rec)) (positionsIn (now (c .before .before .before .before .before .before .before .before .before .before .args .row)))) (now (c .before .before .before .before .before .before .before .before .before .before .args .out)) (c .before .before .put-reduced2 .ensures .0) (omega (arith, c .before .before .put-reduced2 .ensures .0, c .before .before .before .before .before .measure .ensures)) (c .before .before .put-reduced2 .ensures .1)
 
@@ -48,12 +39,12 @@ put-order-spec =
     (tie.spec
     put-reduced-requires
     cast-t11
-    same-length
+    (λ c. search needs)
     returns
-    measure-requires
+    (λ c κs. search needs)
     cast-t12
     returns-2
     put-reduced-requires-2
     cast-t15
-    same-length-2
+    (λ c. search needs)
     returns-3)

@@ -18,12 +18,6 @@ abbrev μ-loop : tie.MeasureT-loop
 loop-holds : tie.Need-loop-holds Inv-loop μ-loop
 loop-holds c = writing-none (now (c .before .before .before .args .rec)) (now (c .before .before .before .args .row)) (now (c .before .before .before .args .out)) (c .before .before .before .pre .0) (c .before .before .before .pre .1)
 
-mul-position : tie.Need-mul-position Inv-loop μ-loop
-mul-position c = search needs
-
-shared-slice-read-position : tie.Need-shared-slice-read-position Inv-loop μ-loop
-shared-slice-read-position c = search needs
-
 add-value : tie.Need-add-value Inv-loop μ-loop
 add-value c = omega (arith, (writing-turn (c .before .before .before .loop .inv) (c .before .before .loop-test .taken)) .three)
 
@@ -36,9 +30,6 @@ shared-slice-read-value c = omega (arith, (writing-turn (c .before .before .befo
 cast-value : tie.Need-cast-value Inv-loop μ-loop
 cast-value c = omega (arith, c .shared-slice-known4 .given (c .before .before .before .before .loop .i + 1))
 
-cast-nth-argument : tie.Need-cast-nth-argument Inv-loop μ-loop
-cast-nth-argument c = search needs
-
 nth-argument-requires : tie.Need-nth-argument-requires Inv-loop μ-loop
 nth-argument-requires c κs = (writing-turn (c .before .before .before .before .loop .inv) (c .before .before .before .loop-test .taken)) .whole
 
@@ -47,9 +38,6 @@ sub-put-changed c = omega (arith, writing-room (c .before .before .before .befor
 
 part-put-changed-start : tie.Need-part-put-changed-start Inv-loop μ-loop
 part-put-changed-start c = omega (arith, writing-room (c .before .before .before .before .before .loop .inv) (c .before .before .before .before .loop-test .taken) (c .before .before .if1 .taken) (c .nth-argument .ensures))
-
-part-put-changed-end : tie.Need-part-put-changed-end Inv-loop μ-loop
-part-put-changed-end c = search needs
 
 put-changed-requires : tie.Need-put-changed-requires Inv-loop μ-loop
 put-changed-requires c κs = (within (writing-turn (c .before .before .before .before .before .before .loop .inv) (c .before .before .before .before .before .loop-test .taken)) (c .before .nth-argument .ensures), omega (arith, writing-room (c .before .before .before .before .before .before .loop .inv) (c .before .before .before .before .before .loop-test .taken) (c .before .before .before .if1 .taken) (c .before .nth-argument .ensures), length-part (c .before .before .before .before .before .before .loop .out) (c .before .before .before .before .before .before .loop .len)))
@@ -93,17 +81,11 @@ sub-put-bytes c = omega (arith, writing-left (c .before .loop .inv) (c .loop-tes
 part-put-bytes-start : tie.Need-part-put-bytes-start Inv-loop μ-loop
 part-put-bytes-start c = omega (arith, writing-left (c .before .loop .inv) (c .loop-test .left), c .before .loop .inv .room, c .before .loop .inv .long)
 
-part-put-bytes-end : tie.Need-part-put-bytes-end Inv-loop μ-loop
-part-put-bytes-end c = search needs
-
 sub-put-bytes-2 : tie.Need-sub-put-bytes-2 Inv-loop μ-loop
 sub-put-bytes-2 c = writing-inside (c .before .before .loop .inv)
 
 part-put-bytes-start-2 : tie.Need-part-put-bytes-start-2 Inv-loop μ-loop
 part-put-bytes-start-2 c = omega (arith, writing-inside (c .before .before .loop .inv))
-
-part-put-bytes-end-2 : tie.Need-part-put-bytes-end-2 Inv-loop μ-loop
-part-put-bytes-end-2 c = search needs
 
 put-bytes-requires : tie.Need-put-bytes-requires Inv-loop μ-loop
 put-bytes-requires c κs = omega (arith, writing-left (c .before .before .before .loop .inv) (c .before .before .loop-test .left), c .before .before .before .loop .inv .room, c .before .before .before .loop .inv .long, length-part (c .before .before .before .loop .out) (c .before .before .before .loop .len), length-part (now (c .before .before .before .before .before .before .before .args .rec)) (c .before .before .before .loop .at))
@@ -113,9 +95,6 @@ sub-result c = writing-inside (c .before .before .before .before .before .before
 
 add-result : tie.Need-add-result Inv-loop μ-loop
 add-result c = omega (arith, writing-left (c .before .before .before .before .before .before .loop .inv) (c .before .before .before .before .before .loop-test .left), c .before .before .before .before .before .before .loop .inv .room, c .before .before .before .before .before .before .loop .inv .long)
-
-same-length : tie.Need-same-length Inv-loop μ-loop
-same-length c = search needs
 
 returns : tie.Need-returns Inv-loop μ-loop
 returns c = writing-all (c .before .before .before .before .before .before .loop .inv) (c .before .before .before .before .before .loop-test .left) (c .before .before .put-bytes .ensures)
@@ -127,17 +106,17 @@ put-reduced-spec =
     Inv-loop
     μ-loop
     loop-holds
-    mul-position
-    shared-slice-read-position
+    (λ c. search needs)
+    (λ c. search needs)
     add-value
     mul-value
     shared-slice-read-value
     cast-value
-    cast-nth-argument
+    (λ c. search needs)
     nth-argument-requires
     sub-put-changed
     part-put-changed-start
-    part-put-changed-end
+    (λ c. search needs)
     put-changed-requires
     add-len
     add-at
@@ -152,12 +131,12 @@ put-reduced-spec =
     loop-again-2
     sub-put-bytes
     part-put-bytes-start
-    part-put-bytes-end
+    (λ c. search needs)
     sub-put-bytes-2
     part-put-bytes-start-2
-    part-put-bytes-end-2
+    (λ c. search needs)
     put-bytes-requires
     sub-result
     add-result
-    same-length
+    (λ c. search needs)
     returns)

@@ -5,9 +5,6 @@ use borrow.Author.Tests.{lt-ltb, le-ltb}
 use Rattle.order.proofs.quotient.Statement.{statement}
 use Rattle.order.proofs.quotient.Tie as tie
 
-div-result : tie.Need-div-result
-div-result c = search needs
-
 returns : tie.Need-returns
 unfolding goesOn
 returns c = rw (lt-ltb _ _ (c .if1 .taken))
@@ -17,4 +14,4 @@ unfolding goesOn
 returns-2 c = rw (le-ltb _ _ (c .if1 .left))
 
 pub quotient-spec : {M : Type 1} → statement M
-quotient-spec = tie.close (tie.spec div-result returns returns-2)
+quotient-spec = tie.close (tie.spec (λ c. search needs) returns returns-2)

@@ -8,9 +8,6 @@ use native.Mathlib.Omega.{arith}
 use Rattle.order_argument.proofs.argument_len.Statement.{statement}
 use Rattle.order_argument.proofs.argument_len.Tie as tie
 
-is-range-requires : tie.Need-is-range-requires
-is-range-requires c κs = search needs
-
 sub-result : tie.Need-sub-result
 sub-result c = omega (arith, range-long (now (c .before .before .before .args .element)) (sym (c .before .is-range .ensures) ∙ c .if1 .taken))
 
@@ -21,4 +18,4 @@ returns-2 : tie.Need-returns-2
 returns-2 c = λ n. sym (ap length (argument-whole (now (c .before .before .before .args .element)) n (sym (c .before .is-range .ensures) ∙ c .if1 .left)))
 
 pub argument-len-spec : {M : Type 1} → statement M
-argument-len-spec = tie.close (tie.spec is-range-requires sub-result returns returns-2)
+argument-len-spec = tie.close (tie.spec (λ c κs. search needs) sub-result returns returns-2)

@@ -9,12 +9,9 @@ returns : tie.Need-returns
 unfolding isRange
 returns c = rw (lt-leb _ _ (c .if1 .taken))
 
-shared-slice-read-result : tie.Need-shared-slice-read-result
-shared-slice-read-result c = search needs
-
 returns-2 : tie.Need-returns-2
 unfolding isRange
 returns-2 c = rw (le-leb _ _ (c .before .if1 .left))
 
 pub is-range-spec : {M : Type 1} → statement M
-is-range-spec = tie.close (tie.spec returns shared-slice-read-result returns-2)
+is-range-spec = tie.close (tie.spec returns (λ c. search needs) returns-2)

@@ -8,9 +8,6 @@ use native.Mathlib.Omega.{arith}
 use Rattle.order_argument.proofs.more_terms.Statement.{statement}
 use Rattle.order_argument.proofs.more_terms.Tie as tie
 
-is-range-requires : tie.Need-is-range-requires
-is-range-requires c κs = search needs
-
 sub-number-at : tie.Need-sub-number-at
 sub-number-at c = omega (arith, range-long (now (c .before .before .before .args .element)) (sym (c .before .is-range .ensures) ∙ c .if1 .taken))
 
@@ -22,9 +19,6 @@ number-at-requires-2 c κs = omega (arith, range-long (now (c .before .before .b
 
 number-at-requires-3 : tie.Need-number-at-requires-3
 number-at-requires-3 c κs = omega (arith, range-long (now (c .before .before .before .before .before .args .element)) (sym (c .before .before .before .is-range .ensures) ∙ c .before .before .if1 .taken))
-
-steps-requires : tie.Need-steps-requires
-steps-requires c κs = search needs
 
 returns : tie.Need-returns
 unfolding moreTerms
@@ -38,11 +32,11 @@ pub more-terms-spec : {M : Type 1} → statement M
 more-terms-spec =
     tie.close
     (tie.spec
-    is-range-requires
+    (λ c κs. search needs)
     sub-number-at
     number-at-requires
     number-at-requires-2
     number-at-requires-3
-    steps-requires
+    (λ c κs. search needs)
     returns
     returns-2)

@@ -19,9 +19,6 @@ abbrev μ-loop : tie.MeasureT-loop
 loop-holds : tie.Need-loop-holds Inv-loop μ-loop
 loop-holds c = (c .before .pre, omega arith, λ a p. p)
 
-element-end-requires : tie.Need-element-end-requires Inv-loop μ-loop
-element-end-requires c κs = search needs
-
 sub-more-terms : tie.Need-sub-more-terms Inv-loop μ-loop
 sub-more-terms c = omega (arith, c .element-end .ensures .from)
 
@@ -31,17 +28,8 @@ part-more-terms-start c = omega (arith, c .element-end .ensures .from)
 part-more-terms-end : tie.Need-part-more-terms-end Inv-loop μ-loop
 part-more-terms-end c = omega (arith, c .element-end .ensures .whole .inside)
 
-more-terms-requires : tie.Need-more-terms-requires Inv-loop μ-loop
-more-terms-requires c κs = search needs
-
 returns : tie.Need-returns Inv-loop μ-loop
 returns c = c .before .before .before .before .loop .inv .2 _ (nth-found (now (c .before .before .before .before .before .before .args .rec)) (c .before .before .before .before .loop .start) (c .before .before .before .element-end .ensures) (c .before .more-terms .ensures) (c .if1 .taken))
-
-sub-term : tie.Need-sub-term Inv-loop μ-loop
-sub-term c = search needs
-
-sub-term-2 : tie.Need-sub-term-2 Inv-loop μ-loop
-sub-term-2 c = search needs
 
 loop-less : tie.Need-loop-less Inv-loop μ-loop
 loop-less c = omega arith
@@ -56,13 +44,13 @@ nth-argument-spec =
     Inv-loop
     μ-loop
     loop-holds
-    element-end-requires
+    (λ c κs. search needs)
     sub-more-terms
     part-more-terms-start
     part-more-terms-end
-    more-terms-requires
+    (λ c κs. search needs)
     returns
-    sub-term
-    sub-term-2
+    (λ c. search needs)
+    (λ c. search needs)
     loop-less
     loop-again)

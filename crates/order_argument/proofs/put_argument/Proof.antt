@@ -9,18 +9,12 @@ use denote.Ref.{now}
 use Rattle.order_argument.proofs.put_argument.Statement.{statement}
 use Rattle.order_argument.proofs.put_argument.Tie as tie
 
-is-range-requires : tie.Need-is-range-requires
-is-range-requires c κs = search needs
-
 put-term-requires : tie.Need-put-term-requires
 put-term-requires c κs =
     let a = c .before .before .before .before .before .args in
     let h = sym (c .before .before .is-range .ensures) ∙ c .before .if1 .taken in
     let l : length (termBytes (now (a .element)) (a .term)) ≤ length (now (a .out)) = rw (argument-term (now (a .element)) (a .term) h) at (c .before .before .before .before .before .pre .1) in
     (h, c .before .before .before .before .before .pre .0, l)
-
-same-length : tie.Need-same-length
-same-length c = search needs
 
 returns : tie.Need-returns
 returns c =
@@ -34,9 +28,6 @@ put-bytes-requires c κs =
     let h = sym (c .before .before .is-range .ensures) ∙ c .before .if1 .left in
     rw (argument-whole (now (a .element)) (a .term) h) at (c .before .before .before .before .before .pre .1)
 
-same-length-2 : tie.Need-same-length-2
-same-length-2 c = search needs
-
 returns-2 : tie.Need-returns-2
 returns-2 c =
     let a = c .before .before .before .before .before .before .before .before .args in
@@ -47,10 +38,10 @@ pub put-argument-spec : {M : Type 1} → statement M
 put-argument-spec =
     tie.close
     (tie.spec
-    is-range-requires
+    (λ c κs. search needs)
     put-term-requires
-    same-length
+    (λ c. search needs)
     returns
     put-bytes-requires
-    same-length-2
+    (λ c. search needs)
     returns-2)

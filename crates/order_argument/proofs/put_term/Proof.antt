@@ -17,17 +17,8 @@ use Rattle.order_argument.proofs.put_term.Tie as tie
 sub-last : tie.Need-sub-last
 sub-last c = omega (arith, range-long (now (c .before .before .args .range)) (c .before .before .pre .0))
 
-add-letter : tie.Need-add-letter
-add-letter c = search needs
-
 shared-slice-read-letter : tie.Need-shared-slice-read-letter
 shared-slice-read-letter c = omega (arith, range-long (now (c .before .before .before .args .range)) (c .before .before .before .pre .0))
-
-term-value-requires : tie.Need-term-value-requires
-term-value-requires c κs = search needs
-
-slice-aggregate-put-field : tie.Need-slice-aggregate-put-field
-slice-aggregate-put-field c = search needs
 
 put-field-requires : tie.Need-put-field-requires
 put-field-requires c κs = omega (arith, range-long (now (c .before .before .before .before .before .before .args .range)) (c .before .before .before .before .before .before .pre .0), term-long (now (c .before .before .before .before .before .before .args .range)) (c .before .before .before .before .before .before .args .term) (c .before .before .before .before .before .before .pre .0), c .before .before .before .before .before .before .pre .2)
@@ -38,17 +29,11 @@ sub-put-bytes c = omega (arith, c .before .before .put-field .ensures .0, range-
 part-put-bytes-start : tie.Need-part-put-bytes-start
 part-put-bytes-start c = omega (arith, c .before .before .put-field .ensures .0, range-long (now (c .before .before .before .before .before .before .before .before .before .args .range)) (c .before .before .before .before .before .before .before .before .before .pre .0), term-long (now (c .before .before .before .before .before .before .before .before .before .args .range)) (c .before .before .before .before .before .before .before .before .before .args .term) (c .before .before .before .before .before .before .before .before .before .pre .0), c .before .before .before .before .before .before .before .before .before .pre .2)
 
-part-put-bytes-end : tie.Need-part-put-bytes-end
-part-put-bytes-end c = search needs
-
 sub-put-bytes-2 : tie.Need-sub-put-bytes-2
 sub-put-bytes-2 c = omega (arith, range-long (now (c .before .before .before .before .before .before .before .before .before .before .args .range)) (c .before .before .before .before .before .before .before .before .before .before .pre .0))
 
 part-put-bytes-start-2 : tie.Need-part-put-bytes-start-2
 part-put-bytes-start-2 c = omega (arith, range-long (now (c .before .before .before .before .before .before .before .before .before .before .args .range)) (c .before .before .before .before .before .before .before .before .before .before .pre .0))
-
-part-put-bytes-end-2 : tie.Need-part-put-bytes-end-2
-part-put-bytes-end-2 c = search needs
 
 put-bytes-requires : tie.Need-put-bytes-requires
 put-bytes-requires c κs = omega (arith, lead-long (now (c .before .before .before .before .before .before .before .before .before .before .before .args .range)) (c .before .before .before .before .before .before .before .before .before .before .before .pre .0), length-part (c .before .before .before .before .put-field .last .0) (c .before .before .before .before .put-field .result), c .before .before .before .before .put-field .kept, c .before .before .before .before .put-field .ensures .0, range-long (now (c .before .before .before .before .before .before .before .before .before .before .before .args .range)) (c .before .before .before .before .before .before .before .before .before .before .before .pre .0), term-long (now (c .before .before .before .before .before .before .before .before .before .before .before .args .range)) (c .before .before .before .before .before .before .before .before .before .before .before .args .term) (c .before .before .before .before .before .before .before .before .before .before .before .pre .0), c .before .before .before .before .before .before .before .before .before .before .before .pre .2)
@@ -56,26 +41,14 @@ put-bytes-requires c κs = omega (arith, lead-long (now (c .before .before .befo
 sub-unit : tie.Need-sub-unit
 sub-unit c = omega (arith, range-long (now (c .before .before .before .before .before .before .before .before .before .before .before .before .before .before .args .range)) (c .before .before .before .before .before .before .before .before .before .before .before .before .before .before .pre .0))
 
-add-unit : tie.Need-add-unit
-add-unit c = search needs
-
 sub-put-numeral : tie.Need-sub-put-numeral
 sub-put-numeral c = omega (arith, c .before .before .before .before .before .before .before .put-field .ensures .0, range-long (now (c .before .before .before .before .before .before .before .before .before .before .before .before .before .before .args .range)) (c .before .before .before .before .before .before .before .before .before .before .before .before .before .before .pre .0), term-long (now (c .before .before .before .before .before .before .before .before .before .before .before .before .before .before .args .range)) (c .before .before .before .before .before .before .before .before .before .before .before .before .before .before .args .term) (c .before .before .before .before .before .before .before .before .before .before .before .before .before .before .pre .0), c .before .before .before .before .before .before .before .before .before .before .before .before .before .before .pre .2)
 
 part-put-numeral-start : tie.Need-part-put-numeral-start
 part-put-numeral-start c = omega (arith, c .before .before .before .before .before .before .before .put-field .ensures .0, range-long (now (c .before .before .before .before .before .before .before .before .before .before .before .before .before .before .args .range)) (c .before .before .before .before .before .before .before .before .before .before .before .before .before .before .pre .0), term-long (now (c .before .before .before .before .before .before .before .before .before .before .before .before .before .before .args .range)) (c .before .before .before .before .before .before .before .before .before .before .before .before .before .before .args .term) (c .before .before .before .before .before .before .before .before .before .before .before .before .before .before .pre .0), c .before .before .before .before .before .before .before .before .before .before .before .before .before .before .pre .2)
 
-part-put-numeral-end : tie.Need-part-put-numeral-end
-part-put-numeral-end c = search needs
-
 put-numeral-requires : tie.Need-put-numeral-requires
 put-numeral-requires c κs = simp (length-take, length-drop) (omega (arith, c .before .before .before .before .before .before .before .before .put-field .ensures .0, range-long (now (c .before .before .before .before .before .before .before .before .before .before .before .before .before .before .before .args .range)) (c .before .before .before .before .before .before .before .before .before .before .before .before .before .before .before .pre .0), term-long (now (c .before .before .before .before .before .before .before .before .before .before .before .before .before .before .before .args .range)) (c .before .before .before .before .before .before .before .before .before .before .before .before .before .before .before .args .term) (c .before .before .before .before .before .before .before .before .before .before .before .before .before .before .before .pre .0), c .before .before .before .before .before .before .before .before .before .before .before .before .before .before .before .pre .2))
-
-add-result : tie.Need-add-result
-add-result c = search needs
-
-same-length : tie.Need-same-length
-same-length c = search needs
 
 returns : tie.Need-returns
 unfolding termBytes
@@ -99,24 +72,24 @@ put-term-spec =
     tie.close
     (tie.spec
     sub-last
-    add-letter
+    (λ c. search needs)
     shared-slice-read-letter
-    term-value-requires
-    slice-aggregate-put-field
+    (λ c κs. search needs)
+    (λ c. search needs)
     put-field-requires
     sub-put-bytes
     part-put-bytes-start
-    part-put-bytes-end
+    (λ c. search needs)
     sub-put-bytes-2
     part-put-bytes-start-2
-    part-put-bytes-end-2
+    (λ c. search needs)
     put-bytes-requires
     sub-unit
-    add-unit
+    (λ c. search needs)
     sub-put-numeral
     part-put-numeral-start
-    part-put-numeral-end
+    (λ c. search needs)
     put-numeral-requires
-    add-result
-    same-length
+    (λ c. search needs)
+    (λ c. search needs)
     returns)

@@ -16,11 +16,5 @@ returns-2 c = rw (c .if2 .taken) (omega arith)
 returns-3 : tie.Need-returns-3
 returns-3 c = rw (c .if3 .taken, div-zero)
 
-div-result : tie.Need-div-result
-div-result c = search needs
-
-returns-4 : tie.Need-returns-4
-returns-4 c = search needs
-
 pub steps-spec : {M : Type 1} → statement M
-steps-spec = tie.close (tie.spec returns returns-2 returns-3 div-result returns-4)
+steps-spec = tie.close (tie.spec returns returns-2 returns-3 (λ c. search needs) (λ c. search needs))

@@ -5,12 +5,6 @@ use borrow.Author.Needs.{needs}
 use Rattle.print_bound.proofs.any_bound.Statement.{statement}
 use Rattle.print_bound.proofs.any_bound.Tie as tie
 
-stop-bound-requires : tie.Need-stop-bound-requires
-stop-bound-requires c κs = search needs
-
-add-result : tie.Need-add-result
-add-result c = search needs
-
 returns : tie.Need-returns
 unfolding anyBound
 returns c = rw (c .stop-bound .ensures, lt-ltb _ _ (c .before .if1 .taken))
@@ -20,4 +14,4 @@ unfolding anyBound
 returns-2 c = rw (le-ltb _ _ (c .if1 .left))
 
 pub any-bound-spec : {M : Type 1} → statement M
-any-bound-spec = tie.close (tie.spec stop-bound-requires add-result returns returns-2)
+any-bound-spec = tie.close (tie.spec (λ c κs. search needs) (λ c. search needs) returns returns-2)

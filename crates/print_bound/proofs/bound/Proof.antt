@@ -17,29 +17,14 @@ abbrev μ-loop : tie.MeasureT-loop
 loop-holds : tie.Need-loop-holds Inv-loop μ-loop
 loop-holds c = bounding (now (c .before .args .rec)) (c .before .pre)
 
-shared-slice-read-tag : tie.Need-shared-slice-read-tag Inv-loop μ-loop
-shared-slice-read-tag c = search needs
-
-add-number-bound : tie.Need-add-number-bound Inv-loop μ-loop
-add-number-bound c = search needs
-
 shared-slice-read-number-bound : tie.Need-shared-slice-read-number-bound Inv-loop μ-loop
 shared-slice-read-number-bound c = omega (arith, numeral-room (turn (c .before .before .before .before .loop .inv) (c .before .before .before .loop-test .taken)) (c .before .if1 .taken))
-
-add-number-bound-2 : tie.Need-add-number-bound-2 Inv-loop μ-loop
-add-number-bound-2 c = search needs
 
 shared-slice-read-number-bound-2 : tie.Need-shared-slice-read-number-bound-2 Inv-loop μ-loop
 shared-slice-read-number-bound-2 c = omega (arith, numeral-room (turn (c .before .before .before .before .before .loop .inv) (c .before .before .before .before .loop-test .taken)) (c .before .before .if1 .taken))
 
-add-number-at : tie.Need-add-number-at Inv-loop μ-loop
-add-number-at c = search needs
-
 number-at-requires : tie.Need-number-at-requires Inv-loop μ-loop
 number-at-requires c κs = omega (arith, numeral-room (turn (c .before .before .before .before .before .loop .inv) (c .before .before .before .before .loop-test .taken)) (c .before .before .if1 .taken))
-
-number-bound-requires : tie.Need-number-bound-requires Inv-loop μ-loop
-number-bound-requires c κs = search needs
 
 add-sum : tie.Need-add-sum Inv-loop μ-loop
 add-sum c = omega (arith, c .before .before .before .before .before .before .before .loop .inv .small, c .before .before .before .before .before .before .before .loop .inv .few, c .before .before .before .before .before .before .loop-test .taken, c .number-bound .ensures, number-few (c .before .before .before .before .before .before .before .loop .base) (getD (now (c .before .before .before .before .before .before .before .before .before .args .rec)) (c .before .before .before .before .before .before .before .loop .at + 3) 0) (getD (now (c .before .before .before .before .before .before .before .before .before .args .rec)) (c .before .before .before .before .before .before .before .loop .at + 4) 0) (c .before .number-at .result), c .before .before .before .before .before .before .before .before .shared-slice-known .given (c .before .before .before .before .before .before .before .loop .at + 4))
@@ -108,14 +93,14 @@ bound-spec =
     Inv-loop
     μ-loop
     loop-holds
-    shared-slice-read-tag
-    add-number-bound
+    (λ c. search needs)
+    (λ c. search needs)
     shared-slice-read-number-bound
-    add-number-bound-2
+    (λ c. search needs)
     shared-slice-read-number-bound-2
-    add-number-at
+    (λ c. search needs)
     number-at-requires
-    number-bound-requires
+    (λ c κs. search needs)
     add-sum
     add-at
     loop-less

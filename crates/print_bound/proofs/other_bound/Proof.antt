@@ -12,29 +12,14 @@ size-at-requires c κs = c .before .pre
 shared-slice-read-match : tie.Need-shared-slice-read-match
 shared-slice-read-match c = omega (arith, head-room (c .before .before .before .pre))
 
-add-number-at : tie.Need-add-number-at
-add-number-at c = search needs
-
 number-at-requires : tie.Need-number-at-requires
 number-at-requires c κs = omega (arith, range-room (c .before .before .before .before .pre) (c .match .keys1))
-
-end-bound-requires : tie.Need-end-bound-requires
-end-bound-requires c κs = search needs
-
-add-number-at-2 : tie.Need-add-number-at-2
-add-number-at-2 c = search needs
 
 number-at-requires-2 : tie.Need-number-at-requires-2
 number-at-requires-2 c κs = omega (arith, range-room (c .before .before .before .before .before .before .pre) (c .before .before .match .keys1))
 
-end-bound-requires-2 : tie.Need-end-bound-requires-2
-end-bound-requires-2 c κs = search needs
-
 add-result : tie.Need-add-result
 add-result c = omega (arith, end-few (c .before .before .before .number-at .result), end-few (c .before .number-at2 .result))
-
-sub-result : tie.Need-sub-result
-sub-result c = search needs
 
 add-result-2 : tie.Need-add-result-2
 add-result-2 c = omega (arith, c .before .before .size-at .ensures, content-few (c .before .before .before .before .pre))
@@ -54,14 +39,14 @@ other-bound-spec =
     (tie.spec
     size-at-requires
     shared-slice-read-match
-    add-number-at
+    (λ c. search needs)
     number-at-requires
-    end-bound-requires
-    add-number-at-2
+    (λ c κs. search needs)
+    (λ c. search needs)
     number-at-requires-2
-    end-bound-requires-2
+    (λ c κs. search needs)
     add-result
-    sub-result
+    (λ c. search needs)
     add-result-2
     returns
     returns-2

@@ -6,9 +6,6 @@ use borrow.Author.Needs.{needs}
 use Rattle.print_bound.proofs.size_at.Statement.{statement}
 use Rattle.print_bound.proofs.size_at.Tie as tie
 
-add-result : tie.Need-add-result
-add-result c = search needs
-
 shared-slice-read-result : tie.Need-shared-slice-read-result
 shared-slice-read-result c = omega (arith, head-room (c .before .pre))
 
@@ -23,4 +20,4 @@ returns c = size-is (c .before .pre)
 
 pub size-at-spec : {M : Type 1} → statement M
 size-at-spec =
-    tie.close (tie.spec add-result shared-slice-read-result cast-result add-result-2 returns)
+    tie.close (tie.spec (λ c. search needs) shared-slice-read-result cast-result add-result-2 returns)

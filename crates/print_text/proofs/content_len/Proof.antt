@@ -10,9 +10,6 @@ use Rattle.print_text.proofs.ContentLaws.{no-value, some-value}
 use Rattle.print_text.proofs.content_len.Statement.{statement}
 use Rattle.print_text.proofs.content_len.Tie as tie
 
-tag-at-requires : tie.Need-tag-at-requires
-tag-at-requires c κs = search needs
-
 returns : tie.Need-returns
 returns c =
     let t : tagOf (drop (c .before .before .before .args .at) (now (c .before .before .before .args .rec))) < singleTag = omega (arith, c .before .tag-at .ensures, c .if1 .taken) in
@@ -30,4 +27,4 @@ returns-2 c =
     λ b v rest h. let p = c .value-len .ensures b v rest (some-value v h t) in record { bytes = p .bytes; behind = p .next }
 
 pub content-len-spec : {M : Type 1} → statement M
-content-len-spec = tie.close (tie.spec tag-at-requires returns value-len-requires returns-2)
+content-len-spec = tie.close (tie.spec (λ c κs. search needs) returns value-len-requires returns-2)

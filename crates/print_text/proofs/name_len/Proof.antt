@@ -13,9 +13,6 @@ use Rattle.print_text.specs.Places.{pieceFields}
 use Rattle.print_text.proofs.name_len.Statement.{statement}
 use Rattle.print_text.proofs.name_len.Tie as tie
 
-tag-at-requires : tie.Need-tag-at-requires
-tag-at-requires c κs = search needs
-
 returns : tie.Need-returns
 returns c =
     let t : tagOf (drop (c .before .before .before .args .at) (now (c .before .before .before .args .rec))) ≡ nameTag → ⊥ = λ z. c .if1 .taken (c .before .tag-at .ensures ∙ z) in
@@ -46,4 +43,4 @@ returns-2 c =
     record { bytes = omega (arith, p .bytes, name-len x); behind = p .behind ∙ ap (λ (ns : List (List ℕ)). c .before .before .before .before .before .args .at + length (bytesOf (pieceFields nameTag ns))) (sym (x .same)) }
 
 pub name-len-spec : {M : Type 1} → statement M
-name-len-spec = tie.close (tie.spec tag-at-requires returns pieces-len-requires add-t6 returns-2)
+name-len-spec = tie.close (tie.spec (λ c κs. search needs) returns pieces-len-requires add-t6 returns-2)

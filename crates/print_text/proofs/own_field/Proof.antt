@@ -5,9 +5,6 @@ use Rattle.print_text.specs.Places.{ownField}
 use Rattle.print_text.proofs.own_field.Statement.{statement}
 use Rattle.print_text.proofs.own_field.Tie as tie
 
-add-result : tie.Need-add-result
-add-result c = search needs
-
 returns : tie.Need-returns
 unfolding ownField
 returns c = rw (eq-eqb _ _ (c .if1 .taken))
@@ -17,4 +14,4 @@ unfolding ownField
 returns-2 c = rw (ne-eqb _ _ (c .if1 .left))
 
 pub own-field-spec : {M : Type 1} → statement M
-own-field-spec = tie.close (tie.spec add-result returns returns-2)
+own-field-spec = tie.close (tie.spec (λ c. search needs) returns returns-2)

@@ -54,9 +54,6 @@ add-k c =
     let e = piece-end (f .has) x (c .behind .ensures) in
     omega (arith, e, room, f .fits, w .2)
 
-tag-at-requires : tie.Need-tag-at-requires Inv-loop μ-loop
-tag-at-requires c κs = search needs
-
 returns : tie.Need-returns Inv-loop μ-loop
 returns c = λ v vs rest h.
     let w = c .before .before .before .loop .inv v vs rest h in
@@ -104,7 +101,7 @@ pieces-len-spec =
     sub-k
     sub-k-2
     add-k
-    tag-at-requires
+    (λ c κs. search needs)
     returns
     add-k-2
     loop-less

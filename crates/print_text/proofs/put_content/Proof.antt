@@ -11,9 +11,6 @@ use Rattle.print_text.proofs.ContentLaws.{no-value, nothing-written, so
 use Rattle.print_text.proofs.put_content.Statement.{statement}
 use Rattle.print_text.proofs.put_content.Tie as tie
 
-tag-at-requires : tie.Need-tag-at-requires
-tag-at-requires c κs = search needs
-
 returns : tie.Need-returns
 returns c =
     let t : tagOf (drop (c .before .before .before .before .args .at) (now (c .before .before .before .before .args .rec))) < singleTag = omega (arith, c .before .tag-at .ensures, c .if1 .taken) in
@@ -25,9 +22,6 @@ put-value-requires c κs =
     let t : singleTag ≤ tagOf (drop (c .before .before .before .before .before .args .at) (now (c .before .before .before .before .before .args .rec))) = omega (arith, c .before .before .tag-at .ensures, c .before .if1 .left) in
     record { b = f .b; v = f .v; rest = f .rest; has = some-value (f .v) (f .has) t; fits = f .fits }
 
-same-length : tie.Need-same-length
-same-length c = search needs
-
 returns-2 : tie.Need-returns-2
 returns-2 c =
     let t : singleTag ≤ tagOf (drop (c .before .before .before .before .before .before .before .before .args .at) (now (c .before .before .before .before .before .before .before .before .args .rec))) = omega (arith, c .before .before .before .before .before .tag-at .ensures, c .before .before .before .before .if1 .left) in
@@ -35,4 +29,4 @@ returns-2 c =
 
 pub put-content-spec : {M : Type 1} → statement M
 put-content-spec =
-    tie.close (tie.spec tag-at-requires returns put-value-requires same-length returns-2)
+    tie.close (tie.spec (λ c κs. search needs) returns put-value-requires (λ c. search needs) returns-2)

@@ -15,9 +15,6 @@ use Rattle.print_text.specs.Places.{pieceFields, piecesText}
 use Rattle.print_text.proofs.put_name.Statement.{statement}
 use Rattle.print_text.proofs.put_name.Tie as tie
 
-tag-at-requires : tie.Need-tag-at-requires
-tag-at-requires c κs = search needs
-
 returns : tie.Need-returns
 returns c =
     let t : tagOf (drop (c .before .before .before .before .args .at) (now (c .before .before .before .before .args .rec))) ≡ nameTag → ⊥ = λ z. c .if1 .taken (c .before .tag-at .ensures ∙ z) in
@@ -49,9 +46,6 @@ part-put-u8-start c =
     let p = c .before .before .put-pieces .ensures (x .w) (x .ws) (f .rest) (x .has) in
     omega (arith, l, f .fits, p .0 .bytes, ap length (p .1), length-over (piecesText (x .w) (x .ws)) (now (c .before .before .before .before .before .before .before .before .args .out)) (omega (arith, l, f .fits)))
 
-part-put-u8-end : tie.Need-part-put-u8-end
-part-put-u8-end c = search needs
-
 put-u8-requires : tie.Need-put-u8-requires
 put-u8-requires c κs =
     let f = c .before .before .before .before .before .before .before .before .before .pre in
@@ -70,9 +64,6 @@ add-t12 c =
     let p = c .before .before .before .before .before .before .put-pieces .ensures (x .w) (x .ws) (f .rest) (x .has) in
     omega (arith, l, f .fits, p .0 .bytes, c .before .before .before .before .before .before .before .before .before .before .before .before .good .0 .0)
 
-same-length : tie.Need-same-length
-same-length c = search needs
-
 returns-2 : tie.Need-returns-2
 returns-2 c =
     let t : tagOf (drop (c .before .before .before .before .before .before .before .before .before .before .before .before .args .at) (now (c .before .before .before .before .before .before .before .before .before .before .before .before .args .rec))) ≡ nameTag = sym (c .before .before .before .before .before .before .before .before .before .tag-at .ensures) ∙ c .before .before .before .before .before .before .before .before .if1 .left in
@@ -87,13 +78,13 @@ pub put-name-spec : {M : Type 1} → statement M
 put-name-spec =
     tie.close
     (tie.spec
-    tag-at-requires
+    (λ c κs. search needs)
     returns
     put-pieces-requires
     sub-put-u8
     part-put-u8-start
-    part-put-u8-end
+    (λ c. search needs)
     put-u8-requires
     add-t12
-    same-length
+    (λ c. search needs)
     returns-2)

@@ -50,9 +50,6 @@ part-put-bytes-start c =
     let long : length (c .before .loop .out) ≡ length (now (a .out)) = ap length (w .3) ∙ length-over (w .0) (now (a .out)) (omega (arith, room, f .fits)) in
     omega (arith, room, f .fits, w .2, long)
 
-part-put-bytes-end : tie.Need-part-put-bytes-end Inv-loop μ-loop
-part-put-bytes-end c = search needs
-
 add-put-bytes : tie.Need-add-put-bytes Inv-loop μ-loop
 add-put-bytes c =
     let f = c .before .before .before .before .before .pre in
@@ -119,9 +116,6 @@ add-k c =
     let e = piece-end (f .has) x (c .before .before .before .before .before .behind .ensures) in
     omega (arith, e, room, f .fits, w .2, c .before .before .before .before .before .before .before .before .before .good .0 .0)
 
-tag-at-requires : tie.Need-tag-at-requires Inv-loop μ-loop
-tag-at-requires c κs = search needs
-
 same-length : tie.Need-same-length Inv-loop μ-loop
 same-length c =
     let f = c .before .before .before .before .before .before .before .before .before .before .before .pre in
@@ -165,9 +159,6 @@ part-put-u8-start c =
     let e = piece-end (f .has) x (c .before .before .before .before .before .before .before .behind .ensures) in
     let long1 = ap length (piece-over (f .has) x (c .before .before .before .before .before .before .before .behind .ensures) (now (a .out)) (w .3) (w .2) (c .before .before .before .before .put-bytes .ensures)) ∙ length-over (w .0 ++ x .u) (now (a .out)) (omega (arith, room, f .fits, length-append (w .0) (x .u))) in
     omega (arith, e, room, f .fits, w .2, long1)
-
-part-put-u8-end : tie.Need-part-put-u8-end Inv-loop μ-loop
-part-put-u8-end c = search needs
 
 put-u8-requires : tie.Need-put-u8-requires Inv-loop μ-loop
 put-u8-requires c κs =
@@ -218,7 +209,7 @@ put-pieces-spec =
     behind-requires
     sub-put-bytes
     part-put-bytes-start
-    part-put-bytes-end
+    (λ c. search needs)
     add-put-bytes
     sub-put-bytes-2
     part-put-bytes-start-2
@@ -227,12 +218,12 @@ put-pieces-spec =
     sub-k
     sub-k-2
     add-k
-    tag-at-requires
+    (λ c κs. search needs)
     same-length
     returns
     sub-put-u8
     part-put-u8-start
-    part-put-u8-end
+    (λ c. search needs)
     put-u8-requires
     add-k-2
     loop-less

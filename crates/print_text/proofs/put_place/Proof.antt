@@ -25,9 +25,6 @@ own-field-requires c κs = let f = c .before .before .before .pre in let x = par
 shared-slice-read-separator : tie.Need-shared-slice-read-separator
 shared-slice-read-separator c = let f = c .before .before .before .before .before .before .pre in let x = parts (f .o) (f .named) (f .p) (f .has) in x .starts
 
-separator-requires : tie.Need-separator-requires
-separator-requires c κs = search needs
-
 put-u8-requires : tie.Need-put-u8-requires
 put-u8-requires c κs =
     let f = c .before .before .before .before .before .before .before .pre in
@@ -76,9 +73,6 @@ part-put-name-start c =
     let u : c .before .before .before .put-u8 .last .0 ≡ over M (now (a .out)) = c .before .before .before .put-u8 .ensures ∙ ap (λ (n : ℕ). over (n ∷ []) (now (a .out))) (c .before .before .before .before .separator .ensures) in
     let lu = ap length u ∙ length-over M (now (a .out)) (omega (arith, l, f .fits)) in
     omega (arith, l, f .fits, lu)
-
-part-put-name-end : tie.Need-part-put-name-end
-part-put-name-end c = search needs
 
 add-put-name : tie.Need-add-put-name
 add-put-name c =
@@ -147,9 +141,6 @@ part-put-content-start c =
     let w = behind M R (now (a .out)) (wrote M (now (a .out)) (c .before .before .before .before .before .before .before .before .put-u8 .last .0) u (omega (arith, l, f .fits))) refl (omega (arith, l, f .fits)) (p .1) in
     omega (arith, l, f .fits, p .0 .bytes, w .long)
 
-part-put-content-end : tie.Need-part-put-content-end
-part-put-content-end c = search needs
-
 put-content-requires : tie.Need-put-content-requires
 put-content-requires c κs =
     let f = c .before .before .before .before .before .before .before .before .before .before .before .before .before .before .before .before .before .pre in
@@ -180,9 +171,6 @@ add-t21 c =
     let ch = subst (λ (n : ℕ). IsContent s n (getD s (c .before .before .before .before .before .before .before .before .before .before .before .before .before .before .before .before .before .own-field .result + 3) 0) (x .b) (x .v) (f .rest)) (sym (p .0 .behind ∙ ap (λ (n : ℕ). n + 4 + length (pieceBytes nameTag (x .nm))) q)) (x .value (getD s (c .before .before .before .before .before .before .before .before .before .before .before .before .before .before .before .before .before .own-field .result + 3) 0) (ap (λ (n : ℕ). getD s (n + 3) 0) q ∙ x .lettered)) in
     omega (arith, l, f .fits, p .0 .bytes, c .before .before .before .put-content .ensures (x .b) (x .v) (f .rest) ch .0 .bytes, c .before .before .before .before .before .before .before .before .before .before .before .before .before .before .before .before .before .before .before .before .before .good .0 .0)
 
-same-length : tie.Need-same-length
-same-length c = search needs
-
 returns : tie.Need-returns
 returns c = λ o named pl rest h.
     let a = c .before .before .before .before .before .before .before .before .before .before .before .before .before .before .before .before .before .before .before .before .before .args in
@@ -209,20 +197,20 @@ put-place-spec =
     shared-slice-read-own-field
     own-field-requires
     shared-slice-read-separator
-    separator-requires
+    (λ c κs. search needs)
     put-u8-requires
     add-base
     shared-slice-read-base
     sub-put-name
     part-put-name-start
-    part-put-name-end
+    (λ c. search needs)
     add-put-name
     put-name-requires
     add-k
     sub-put-content
     part-put-content-start
-    part-put-content-end
+    (λ c. search needs)
     put-content-requires
     add-t21
-    same-length
+    (λ c. search needs)
     returns)

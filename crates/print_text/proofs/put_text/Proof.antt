@@ -53,9 +53,6 @@ part-put-place-start c =
     let long = ap length o ∙ length-over (w .0) (now (c .before .before .before .before .before .before .before .before .args .out)) (omega (arith, done-room (w .1), c .before .before .before .before .before .before .before .before .pre .1)) in
     omega (arith, long, w .2, done-room (w .1), c .before .before .before .before .before .before .before .before .pre .1)
 
-part-put-place-end : tie.Need-part-put-place-end Inv-loop μ-loop
-part-put-place-end c = search needs
-
 put-place-requires : tie.Need-put-place-requires Inv-loop μ-loop
 put-place-requires c κs =
     let g = start-at (now (c .before .before .before .before .before .before .before .before .before .args .rec)) (c .before .before .before .before .before .before .before .before .before .pre .0) in
@@ -110,9 +107,6 @@ part-put-u8-start c =
     let long = ap length o ∙ length-over (w .0) (now (c .before .before .before .before .before .before .before .before .args .out)) (omega (arith, done-room (w .1), c .before .before .before .before .before .before .before .before .pre .1)) in
     omega (arith, long, w .2, done-room (w .1), c .before .before .before .before .before .before .before .before .pre .1)
 
-part-put-u8-end : tie.Need-part-put-u8-end Inv-loop μ-loop
-part-put-u8-end c = search needs
-
 put-u8-requires : tie.Need-put-u8-requires Inv-loop μ-loop
 put-u8-requires c κs =
     let g = start-at (now (c .before .before .before .before .before .before .before .before .before .args .rec)) (c .before .before .before .before .before .before .before .before .before .pre .0) in
@@ -161,14 +155,14 @@ put-text-spec =
     loop-holds
     sub-put-place
     part-put-place-start
-    part-put-place-end
+    (λ c. search needs)
     put-place-requires
     add-k
     loop-less
     loop-again
     sub-put-u8
     part-put-u8-start
-    part-put-u8-end
+    (λ c. search needs)
     put-u8-requires
     add-result
     same-length

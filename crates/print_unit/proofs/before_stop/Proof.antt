@@ -7,12 +7,6 @@ use mathlib.Core.Path.{ap}
 use native.Mathlib.Omega.{arith}
 use Rattle.print_unit.proofs.before_stop.Statement.{statement}
 use Rattle.print_unit.proofs.before_stop.Tie as tie
-use Rattle.print_unit.proofs.before_stop.Reads as reads
-use Rattle.print_unit.proofs.before_stop.Lts as lts
-use Rattle.print_unit.proofs.power.Reads as power-reads
-
-power-requires : tie.Need-power-requires
-power-requires c κs = search needs
 
 div-result : tie.Need-div-result
 div-result c = let a = c .before .args in omega (arith, pow-least (a .base) (a .k) (omega arith), c .power .ensures)
@@ -24,4 +18,4 @@ returns : tie.Need-returns
 returns c = ap (λ (p : ℕ). c .before .args .n / p) (c .power .ensures)
 
 pub before-stop-spec : {M : Type 1} → statement M
-before-stop-spec = tie.close (tie.spec power-requires div-result cast-result returns)
+before-stop-spec = tie.close (tie.spec (λ c κs. search needs) div-result cast-result returns)

@@ -6,17 +6,6 @@ use Rattle.print_unit.proofs.TextLaws.{part-length, is-whole, is-part}
 use native.Mathlib.Omega.{arith}
 use Rattle.print_unit.proofs.number_len.Statement.{statement}
 use Rattle.print_unit.proofs.number_len.Tie as tie
-use Rattle.print_unit.proofs.number_len.Reads as reads
-use Rattle.print_unit.proofs.number_len.Lts as lts
-use Rattle.print_unit.proofs.before_stop.Reads as before-stop-reads
-use Rattle.digits.proofs.digit_count.Reads as digit-count-reads
-use Rattle.digits.proofs.size.Reads as size-reads
-
-size-requires : tie.Need-size-requires
-size-requires c κs = search needs
-
-cast-base : tie.Need-cast-base
-cast-base c = search needs
 
 digit-count-requires : tie.Need-digit-count-requires
 digit-count-requires c κs = let a = c .before .before .args in (omega (arith, size-low (a .letter), size-high (a .letter), c .before .size .ensures), omega (arith, size-low (a .letter), size-high (a .letter), c .before .size .ensures))
@@ -43,8 +32,8 @@ pub number-len-spec : {M : Type 1} → statement M
 number-len-spec =
     tie.close
     (tie.spec
-    size-requires
-    cast-base
+    (λ c κs. search needs)
+    (λ c. search needs)
     digit-count-requires
     returns
     before-stop-requires

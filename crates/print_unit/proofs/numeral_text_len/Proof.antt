@@ -4,16 +4,6 @@ use Rattle.print_unit.proofs.TextLaws.{numeral-len, number-most, prefix
 use native.Mathlib.Omega.{arith}
 use Rattle.print_unit.proofs.numeral_text_len.Statement.{statement}
 use Rattle.print_unit.proofs.numeral_text_len.Tie as tie
-use Rattle.print_unit.proofs.numeral_text_len.Reads as reads
-use Rattle.print_unit.proofs.numeral_text_len.Lts as lts
-use Rattle.print_unit.proofs.number_len.Reads as number-len-reads
-use Rattle.print_unit.proofs.prefix_len.Reads as prefix-len-reads
-
-prefix-len-requires : tie.Need-prefix-len-requires
-prefix-len-requires c κs = search needs
-
-number-len-requires : tie.Need-number-len-requires
-number-len-requires c κs = search needs
 
 add-result : tie.Need-add-result
 add-result c = let a = c .before .before .args in omega (arith, prefix-most (a .base) (a .letter), number-most (a .letter) (a .fraction) (a .value), c .number-len .ensures, c .before .prefix-len .ensures)
@@ -23,4 +13,4 @@ returns c = let a = c .before .before .args in omega (arith, numeral-len (a .bas
 
 pub numeral-text-len-spec : {M : Type 1} → statement M
 numeral-text-len-spec =
-    tie.close (tie.spec prefix-len-requires number-len-requires add-result returns)
+    tie.close (tie.spec (λ c κs. search needs) (λ c κs. search needs) add-result returns)

@@ -7,8 +7,6 @@ use mathlib.Core.Path.{_≡_, sym, ap, _∙_}
 use native.Mathlib.Omega.{arith}
 use Rattle.print_unit.proofs.power.Statement.{statement}
 use Rattle.print_unit.proofs.power.Tie as tie
-use Rattle.print_unit.proofs.power.Reads as reads
-use Rattle.print_unit.proofs.power.Lts as lts
 
 abbrev Inv-loop : tie.InvT-loop
 Inv-loop base k p₀ i₀ p i = (p ≡ base ^ i) × (i ≤ k)
@@ -22,12 +20,6 @@ loop-holds c = (sym (pow-zero _), omega arith)
 mul-p : tie.Need-mul-p Inv-loop μ-loop
 mul-p c = let l = c .before .loop in let a = c .before .before .args in omega (arith, pow-more (a .base) (l .i) (l .p) (l .inv .0), pow-fits (a .base) (l .i + 1) (omega arith) (omega arith))
 
-add-i : tie.Need-add-i Inv-loop μ-loop
-add-i c = search needs
-
-loop-less : tie.Need-loop-less Inv-loop μ-loop
-loop-less c = search needs
-
 loop-again : tie.Need-loop-again Inv-loop μ-loop
 loop-again c = let l = c .before .loop in (pow-more (c .before .before .args .base) (l .i) (l .p) (l .inv .0), omega arith)
 
@@ -36,4 +28,4 @@ returns c = let a = c .before .before .args in let l = c .before .loop in let e 
 
 pub power-spec : {M : Type 1} → statement M
 power-spec =
-    tie.close (tie.spec Inv-loop μ-loop loop-holds mul-p add-i loop-less loop-again returns)
+    tie.close (tie.spec Inv-loop μ-loop loop-holds mul-p (λ c. search needs) (λ c. search needs) loop-again returns)

@@ -2,8 +2,6 @@
 use Rattle.print_unit.proofs.TextLaws.{prefix-none, prefix-some}
 use Rattle.print_unit.proofs.prefix_len.Statement.{statement}
 use Rattle.print_unit.proofs.prefix_len.Tie as tie
-use Rattle.print_unit.proofs.prefix_len.Reads as reads
-use Rattle.print_unit.proofs.prefix_len.Lts as lts
 
 returns : tie.Need-returns
 returns c = let a = c .before .args in rw (prefix-none (a .base) (a .letter) (c .if1 .taken))

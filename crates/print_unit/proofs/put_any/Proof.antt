@@ -27,9 +27,6 @@ put-numeral-text-requires c κs =
     let p = now (a .part) in
     (c .before .before .before .before .before .before .before .before .pre .0 .few (c .before .before .before .before .if1 .taken), omega (arith, ap length (as-numeral (a .base) p (c .before .before .before .before .if1 .taken) (c .number-at .ensures)), c .before .before .before .before .before .before .before .before .pre .1))
 
-same-length : tie.Need-same-length
-same-length c = search needs
-
 returns : tie.Need-returns
 returns c =
     let a = c .before .before .before .before .before .before .before .before .before .before .before .args in
@@ -42,9 +39,6 @@ sub-put-word c = omega (arith, c .before .before .before .before .before .pre .0
 part-put-word-start : tie.Need-part-put-word-start
 part-put-word-start c = omega (arith, c .before .before .before .before .before .pre .0 .least)
 
-part-put-word-end : tie.Need-part-put-word-end
-part-put-word-end c = search needs
-
 shared-slice-read-put-word : tie.Need-shared-slice-read-put-word
 shared-slice-read-put-word c = omega (arith, c .before .before .before .before .before .before .before .pre .0 .least)
 
@@ -53,9 +47,6 @@ put-word-requires c κs =
     let a = c .before .before .before .before .before .before .before .args in
     let p = now (a .part) in
     rw (part-there p 3) (omega (arith, ap length (as-word (a .base) p (c .before .before .before .if1 .left) refl), c .before .before .before .before .before .before .before .pre .1))
-
-same-length-2 : tie.Need-same-length-2
-same-length-2 c = search needs
 
 returns-2 : tie.Need-returns-2
 returns-2 c =
@@ -72,12 +63,12 @@ put-any-spec =
     shared-slice-read-put-numeral-text-2
     number-at-requires
     put-numeral-text-requires
-    same-length
+    (λ c. search needs)
     returns
     sub-put-word
     part-put-word-start
-    part-put-word-end
+    (λ c. search needs)
     shared-slice-read-put-word
     put-word-requires
-    same-length-2
+    (λ c. search needs)
     returns-2)

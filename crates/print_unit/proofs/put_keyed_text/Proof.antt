@@ -9,10 +9,6 @@ use mathlib.Core.Path.{sym}
 use native.Mathlib.Omega.{arith}
 use Rattle.print_unit.proofs.put_keyed_text.Statement.{statement}
 use Rattle.print_unit.proofs.put_keyed_text.Tie as tie
-use Rattle.print_unit.proofs.put_keyed_text.Reads as reads
-use Rattle.print_unit.proofs.put_keyed_text.Lts as lts
-use Rattle.fields.proofs.put_bytes.Reads as put-bytes-reads
-use Rattle.print_unit.proofs.put_prefix.Reads as put-prefix-reads
 
 put-prefix-requires : tie.Need-put-prefix-requires
 put-prefix-requires c κs = let a = c .before .before .before .args in omega (arith, keyed-len (a .base) (now (a .content)), c .before .before .before .pre)
@@ -23,17 +19,11 @@ sub-put-bytes c = let a = c .before .before .before .before .before .before .arg
 part-put-bytes-start : tie.Need-part-put-bytes-start
 part-put-bytes-start c = let a = c .before .before .before .before .before .before .args in omega (arith, keyed-len (a .base) (now (a .content)), c .before .before .before .before .before .before .pre)
 
-part-put-bytes-end : tie.Need-part-put-bytes-end
-part-put-bytes-end c = search needs
-
 put-bytes-requires : tie.Need-put-bytes-requires
 put-bytes-requires c κs = let a = c .before .before .before .before .before .before .before .args in search (needs, keyed-len (a .base) (now (a .content)))
 
 add-result : tie.Need-add-result
 add-result c = let a = c .before .before .before .before .before .before .before .before .before .before .args in omega (arith, keyed-len (a .base) (now (a .content)), c .before .before .before .before .before .before .before .before .before .before .pre, c .before .before .before .before .before .before .put-prefix .ensures .0)
-
-same-length : tie.Need-same-length
-same-length c = search needs
 
 returns : tie.Need-returns
 unfolding keyedText
@@ -52,8 +42,8 @@ put-keyed-text-spec =
     put-prefix-requires
     sub-put-bytes
     part-put-bytes-start
-    part-put-bytes-end
+    (λ c. search needs)
     put-bytes-requires
     add-result
-    same-length
+    (λ c. search needs)
     returns)

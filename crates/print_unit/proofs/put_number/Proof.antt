@@ -7,32 +7,15 @@ use mathlib.Core.Path.{ap}
 use native.Mathlib.Omega.{arith}
 use Rattle.print_unit.proofs.put_number.Statement.{statement}
 use Rattle.print_unit.proofs.put_number.Tie as tie
-use Rattle.print_unit.proofs.put_number.Reads as reads
-use Rattle.print_unit.proofs.put_number.Lts as lts
-use Rattle.print_unit.proofs.put_part.Reads as put-part-reads
-use Rattle.digits.proofs.put_whole.Reads as put-whole-reads
-use Rattle.digits.proofs.size.Reads as size-reads
-
-size-requires : tie.Need-size-requires
-size-requires c κs = search needs
-
-cast-base : tie.Need-cast-base
-cast-base c = search needs
 
 put-whole-requires : tie.Need-put-whole-requires
 put-whole-requires c κs = let a = c .before .before .before .before .args in (omega (arith, size-low (a .letter), size-high (a .letter), c .before .before .size .ensures), omega (arith, size-low (a .letter), size-high (a .letter), c .before .before .size .ensures), omega (arith, ap length (is-whole (a .letter) (a .fraction) (a .value) (c .before .before .size .ensures) (c .before .if1 .taken)), c .before .before .before .before .pre .1))
-
-same-length : tie.Need-same-length
-same-length c = search needs
 
 returns : tie.Need-returns
 returns c = let a = c .before .before .before .before .before .before .before .args in rw (is-whole (a .letter) (a .fraction) (a .value) (c .before .before .before .before .before .size .ensures) (c .before .before .before .before .if1 .taken)) (c .before .before .put-whole .ensures)
 
 put-part-requires : tie.Need-put-part-requires
 put-part-requires c κs = let a = c .before .before .before .before .args in (omega (arith, size-low (a .letter), size-high (a .letter), c .before .before .size .ensures), omega (arith, size-low (a .letter), size-high (a .letter), c .before .before .size .ensures), omega arith, omega (arith, ap length (is-part (a .letter) (a .fraction) (a .value) (c .before .before .size .ensures) (c .before .if1 .left)), c .before .before .before .before .pre .1))
-
-same-length-2 : tie.Need-same-length-2
-same-length-2 c = search needs
 
 returns-2 : tie.Need-returns-2
 returns-2 c = let a = c .before .before .before .before .before .before .before .args in rw (is-part (a .letter) (a .fraction) (a .value) (c .before .before .before .before .before .size .ensures) (c .before .before .before .before .if1 .left)) (c .before .before .put-part .ensures)
@@ -41,11 +24,11 @@ pub put-number-spec : {M : Type 1} → statement M
 put-number-spec =
     tie.close
     (tie.spec
-    size-requires
-    cast-base
+    (λ c κs. search needs)
+    (λ c. search needs)
     put-whole-requires
-    same-length
+    (λ c. search needs)
     returns
     put-part-requires
-    same-length-2
+    (λ c. search needs)
     returns-2)

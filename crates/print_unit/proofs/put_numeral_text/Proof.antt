@@ -8,10 +8,6 @@ use mathlib.Core.Path.{sym}
 use native.Mathlib.Omega.{arith}
 use Rattle.print_unit.proofs.put_numeral_text.Statement.{statement}
 use Rattle.print_unit.proofs.put_numeral_text.Tie as tie
-use Rattle.print_unit.proofs.put_numeral_text.Reads as reads
-use Rattle.print_unit.proofs.put_numeral_text.Lts as lts
-use Rattle.print_unit.proofs.put_number.Reads as put-number-reads
-use Rattle.print_unit.proofs.put_prefix.Reads as put-prefix-reads
 
 put-prefix-requires : tie.Need-put-prefix-requires
 put-prefix-requires c κs = let a = c .before .before .args in omega (arith, numeral-len (a .base) (a .letter) (a .fraction) (a .value), c .before .before .pre .1)
@@ -22,17 +18,11 @@ sub-put-number c = let a = c .before .before .before .before .before .args in om
 part-put-number-start : tie.Need-part-put-number-start
 part-put-number-start c = let a = c .before .before .before .before .before .args in omega (arith, numeral-len (a .base) (a .letter) (a .fraction) (a .value), c .before .before .before .before .before .pre .1)
 
-part-put-number-end : tie.Need-part-put-number-end
-part-put-number-end c = search needs
-
 put-number-requires : tie.Need-put-number-requires
 put-number-requires c κs = let a = c .before .before .before .before .before .before .args in (omega arith, search (needs, numeral-len (a .base) (a .letter) (a .fraction) (a .value)))
 
 add-result : tie.Need-add-result
 add-result c = let a = c .before .before .before .before .before .before .before .before .before .args in omega (arith, numeral-len (a .base) (a .letter) (a .fraction) (a .value), c .before .before .before .before .before .before .before .before .before .pre .1, c .before .before .put-number .ensures .0, c .before .before .before .before .before .before .put-prefix .ensures .0)
-
-same-length : tie.Need-same-length
-same-length c = search needs
 
 returns : tie.Need-returns
 unfolding numeralText
@@ -51,8 +41,8 @@ put-numeral-text-spec =
     put-prefix-requires
     sub-put-number
     part-put-number-start
-    part-put-number-end
+    (λ c. search needs)
     put-number-requires
     add-result
-    same-length
+    (λ c. search needs)
     returns)

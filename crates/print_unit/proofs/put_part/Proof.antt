@@ -12,15 +12,6 @@ use mathlib.Core.Path.{_≡_, sym, _∙_}
 use native.Mathlib.Omega.{arith}
 use Rattle.print_unit.proofs.put_part.Statement.{statement}
 use Rattle.print_unit.proofs.put_part.Tie as tie
-use Rattle.print_unit.proofs.put_part.Reads as reads
-use Rattle.print_unit.proofs.put_part.Lts as lts
-use Rattle.fields.proofs.put_u8.Reads as put-u8-reads
-use Rattle.print_unit.proofs.before_stop.Reads as before-stop-reads
-use Rattle.digits.proofs.put_digits.Reads as put-digits-reads
-use Rattle.digits.proofs.put_whole.Reads as put-whole-reads
-
-before-stop-requires : tie.Need-before-stop-requires
-before-stop-requires c κs = search needs
 
 put-whole-requires : tie.Need-put-whole-requires
 put-whole-requires c κs = let a = c .before .before .before .args in (omega arith, omega arith, omega (arith, part-length (a .k) (a .base) (a .n) (c .before .before-stop .ensures)))
@@ -30,9 +21,6 @@ sub-put-u8 c = let a = c .before .before .before .before .before .before .args i
 
 part-put-u8-start : tie.Need-part-put-u8-start
 part-put-u8-start c = let a = c .before .before .before .before .before .before .args in omega (arith, part-length (a .k) (a .base) (a .n) (c .before .before .before .before .before-stop .ensures))
-
-part-put-u8-end : tie.Need-part-put-u8-end
-part-put-u8-end c = search needs
 
 put-u8-requires : tie.Need-put-u8-requires
 put-u8-requires c κs = let a = c .before .before .before .before .before .before .before .args in search (needs, part-length (a .k) (a .base) (a .n) (c .before .before .before .before .before .before-stop .ensures))
@@ -46,17 +34,11 @@ sub-put-digits c = let a = c .before .before .before .before .before .before .be
 part-put-digits-start : tie.Need-part-put-digits-start
 part-put-digits-start c = let a = c .before .before .before .before .before .before .before .before .before .before .args in omega (arith, part-length (a .k) (a .base) (a .n) (c .before .before .before .before .before .before .before .before .before-stop .ensures))
 
-part-put-digits-end : tie.Need-part-put-digits-end
-part-put-digits-end c = search needs
-
 put-digits-requires : tie.Need-put-digits-requires
 put-digits-requires c κs = let a = c .before .before .before .before .before .before .before .before .before .before .before .args in (omega arith, omega arith, search (needs, part-length (a .k) (a .base) (a .n) (c .before .before .before .before .before .before .before .before .before .before-stop .ensures)))
 
 add-result : tie.Need-add-result
 add-result c = let a = c .before .before .before .before .before .before .before .before .before .before .before .before .before .before .args in omega (arith, part-length (a .k) (a .base) (a .n) (c .before .before .before .before .before .before .before .before .before .before .before .before .before-stop .ensures))
-
-same-length : tie.Need-same-length
-same-length c = search needs
 
 returns : tie.Need-returns
 returns c =
@@ -79,17 +61,17 @@ pub put-part-spec : {M : Type 1} → statement M
 put-part-spec =
     tie.close
     (tie.spec
-    before-stop-requires
+    (λ c κs. search needs)
     put-whole-requires
     sub-put-u8
     part-put-u8-start
-    part-put-u8-end
+    (λ c. search needs)
     put-u8-requires
     add-q
     sub-put-digits
     part-put-digits-start
-    part-put-digits-end
+    (λ c. search needs)
     put-digits-requires
     add-result
-    same-length
+    (λ c. search needs)
     returns)

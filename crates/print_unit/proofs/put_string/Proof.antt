@@ -12,10 +12,6 @@ use native.Mathlib.Omega.{arith}
 use Rattle.print_unit.proofs.StringLaws.{string-len}
 use Rattle.print_unit.proofs.put_string.Statement.{statement}
 use Rattle.print_unit.proofs.put_string.Tie as tie
-use Rattle.print_unit.proofs.put_string.Reads as reads
-use Rattle.print_unit.proofs.put_string.Lts as lts
-use Rattle.fields.proofs.put_u8.Reads as put-u8-reads
-use Rattle.print_unit.proofs.put_doubled.Reads as put-doubled-reads
 
 put-u8-requires : tie.Need-put-u8-requires
 put-u8-requires c κs = omega (arith, string-len (now (c .before .before .before .args .content)), c .before .before .before .pre)
@@ -25,9 +21,6 @@ sub-put-doubled c = omega (arith, string-len (now (c .before .before .before .be
 
 part-put-doubled-start : tie.Need-part-put-doubled-start
 part-put-doubled-start c = omega (arith, string-len (now (c .before .before .before .before .before .before .args .content)), c .before .before .before .before .before .before .pre)
-
-part-put-doubled-end : tie.Need-part-put-doubled-end
-part-put-doubled-end c = search needs
 
 put-doubled-requires : tie.Need-put-doubled-requires
 put-doubled-requires c κs = search (needs, string-len (now (c .before .before .before .before .before .before .before .args .content)))
@@ -41,17 +34,11 @@ sub-put-u8 c = omega (arith, string-len (now (c .before .before .before .before 
 part-put-u8-start : tie.Need-part-put-u8-start
 part-put-u8-start c = omega (arith, string-len (now (c .before .before .before .before .before .before .before .before .before .before .args .content)), c .before .before .before .before .before .before .before .before .before .before .pre, c .before .before .put-doubled .ensures .0)
 
-part-put-u8-end : tie.Need-part-put-u8-end
-part-put-u8-end c = search needs
-
 put-u8-requires-2 : tie.Need-put-u8-requires-2
 put-u8-requires-2 c κs = search (needs, string-len (now (c .before .before .before .before .before .before .before .before .before .before .before .args .content)), c .before .before .before .put-doubled .ensures .0)
 
 add-result : tie.Need-add-result
 add-result c = omega (arith, string-len (now (c .before .before .before .before .before .before .before .before .before .before .before .before .before .before .args .content)), c .before .before .before .before .before .before .before .before .before .before .before .before .before .before .pre, c .before .before .before .before .before .before .put-doubled .ensures .0)
-
-same-length : tie.Need-same-length
-same-length c = search needs
 
 returns : tie.Need-returns
 unfolding stringText
@@ -73,13 +60,13 @@ put-string-spec =
     put-u8-requires
     sub-put-doubled
     part-put-doubled-start
-    part-put-doubled-end
+    (λ c. search needs)
     put-doubled-requires
     add-n
     sub-put-u8
     part-put-u8-start
-    part-put-u8-end
+    (λ c. search needs)
     put-u8-requires-2
     add-result
-    same-length
+    (λ c. search needs)
     returns)

@@ -15,9 +15,6 @@ use Rattle.print_unit.proofs.put_unit.Tie as tie
 put-any-requires : tie.Need-put-any-requires
 put-any-requires c κs = any-fits (c .before .before .before .before .pre)
 
-same-length : tie.Need-same-length
-same-length c = search needs
-
 returns : tie.Need-returns
 returns c = let a = c .before .before .before .before .before .before .before .args in let p = now (a .part) in put-is p (a .base) (now (a .out)) (c .before .before .put-any .ensures)
 
@@ -30,21 +27,12 @@ number-at-requires c κs = omega (arith, sized-is (c .before .before .before .be
 number-at-requires-2 : tie.Need-number-at-requires-2
 number-at-requires-2 c κs = omega (arith, sized-is (c .before .before .before .before .before .before .before .pre .has) .numeral (c .before .before .if2 .taken))
 
-cast-out : tie.Need-cast-out
-cast-out c = search needs
-
-add-out : tie.Need-add-out
-add-out c = search needs
-
 slice-write-out : tie.Need-slice-write-out
 slice-write-out c =
     let a = c .before .before .before .before .before .before .before .before .before .args in
     let p = now (a .part) in
     let e = one-digit p (λ i. omega (arith, c .before .before .before .before .before .shared-slice-known2 .given i)) (c .before .before .before .before .if2 .taken) (sym (c .before .before .before .number-at .ensures) ∙ c .before .before .if3 .taken) (c .before .number-at2 .result) (c .before .number-at2 .ensures) (c .if4 .taken) in
     omega (arith, any-fits (c .before .before .before .before .before .before .before .before .before .pre) .1, ap length (under-d p (c .before .before .before .before .before .before .if1 .left) e))
-
-same-length-2 : tie.Need-same-length-2
-same-length-2 c = search needs
 
 returns-2 : tie.Need-returns-2
 returns-2 c =
@@ -61,9 +49,6 @@ put-any-requires-2 c κs =
     let p = now (a .part) in
     subst (λ (n : ℕ). Sized p × (length (fieldText n p) ≤ length (now (a .out)))) (c .before .before .before .if1 .left) (any-fits (c .before .before .before .before .before .before .pre))
 
-same-length-3 : tie.Need-same-length-3
-same-length-3 c = search needs
-
 returns-3 : tie.Need-returns-3
 returns-3 c =
     let a = c .before .before .before .before .before .before .before .before .before .args in
@@ -75,16 +60,16 @@ put-unit-spec =
     tie.close
     (tie.spec
     put-any-requires
-    same-length
+    (λ c. search needs)
     returns
     shared-slice-read-if2
     number-at-requires
     number-at-requires-2
-    cast-out
-    add-out
+    (λ c. search needs)
+    (λ c. search needs)
     slice-write-out
-    same-length-2
+    (λ c. search needs)
     returns-2
     put-any-requires-2
-    same-length-3
+    (λ c. search needs)
     returns-3)

@@ -21,15 +21,6 @@ sub-put-whole c = let a = c .before .before .before .before .before .args in ome
 part-put-whole-start : tie.Need-part-put-whole-start
 part-put-whole-start c = let a = c .before .before .before .before .before .args in omega (arith, numeral-len (a .base) (a .letter) 0 (a .value), c .before .before .before .before .before .pre, c .before .before .put-prefix .ensures .0)
 
-part-put-whole-end : tie.Need-part-put-whole-end
-part-put-whole-end c = search needs
-
-size-requires : tie.Need-size-requires
-size-requires c κs = search needs
-
-cast-put-whole : tie.Need-cast-put-whole
-cast-put-whole c = search needs
-
 put-whole-requires : tie.Need-put-whole-requires
 put-whole-requires c κs =
     let a = c .before .before .before .before .before .before .before .args in
@@ -40,9 +31,6 @@ add-result : tie.Need-add-result
 add-result c =
     let a = c .before .before .before .before .before .before .before .before .before .before .args in
     omega (arith, ap length (is-whole (a .letter) 0 (a .value) (c .before .before .before .size .ensures) refl), numeral-len (a .base) (a .letter) 0 (a .value), c .before .before .before .before .before .before .before .before .before .before .pre, c .before .before .put-whole .ensures .0, c .before .before .before .before .before .before .before .put-prefix .ensures .0)
-
-same-length : tie.Need-same-length
-same-length c = search needs
 
 returns : tie.Need-returns
 unfolding numeralText
@@ -61,10 +49,10 @@ put-whole-text-spec =
     put-prefix-requires
     sub-put-whole
     part-put-whole-start
-    part-put-whole-end
-    size-requires
-    cast-put-whole
+    (λ c. search needs)
+    (λ c κs. search needs)
+    (λ c. search needs)
     put-whole-requires
     add-result
-    same-length
+    (λ c. search needs)
     returns)

@@ -14,9 +14,6 @@ put-string-requires c κs =
     let w = now (a .content) in
     omega (arith, ap length (as-string (a .base) (a .tag) w (c .before .if1 .taken)), c .before .before .before .before .pre)
 
-same-length : tie.Need-same-length
-same-length c = search needs
-
 returns : tie.Need-returns
 returns c =
     let a = c .before .before .before .before .before .before .before .args in
@@ -28,9 +25,6 @@ put-keyed-text-requires c κs =
     let a = c .before .before .before .before .before .args in
     let w = now (a .content) in
     omega (arith, ap length (as-keyed (a .base) (a .tag) w (c .before .before .if1 .left) (c .before .if2 .taken)), c .before .before .before .before .before .pre)
-
-same-length-2 : tie.Need-same-length-2
-same-length-2 c = search needs
 
 returns-2 : tie.Need-returns-2
 returns-2 c =
@@ -44,9 +38,6 @@ put-bytes-requires c κs =
     let w = now (a .content) in
     omega (arith, ap length (as-name (a .base) (a .tag) w (c .before .before .if1 .left) (c .before .if2 .left)), c .before .before .before .before .before .pre)
 
-same-length-3 : tie.Need-same-length-3
-same-length-3 c = search needs
-
 returns-3 : tie.Need-returns-3
 returns-3 c =
     let a = c .before .before .before .before .before .before .before .before .args in
@@ -58,11 +49,11 @@ put-word-spec =
     tie.close
     (tie.spec
     put-string-requires
-    same-length
+    (λ c. search needs)
     returns
     put-keyed-text-requires
-    same-length-2
+    (λ c. search needs)
     returns-2
     put-bytes-requires
-    same-length-3
+    (λ c. search needs)
     returns-3)

@@ -35,9 +35,6 @@ sub-word-len c = omega (arith, sized-is (c .before .before .before .pre .has) .l
 part-word-len-start : tie.Need-part-word-len-start
 part-word-len-start c = omega (arith, sized-is (c .before .before .before .pre .has) .least)
 
-part-word-len-end : tie.Need-part-word-len-end
-part-word-len-end c = search needs
-
 shared-slice-read-word-len : tie.Need-shared-slice-read-word-len
 shared-slice-read-word-len c = omega (arith, sized-is (c .before .before .before .before .before .pre .has) .least)
 
@@ -62,7 +59,7 @@ unit-len-spec =
     returns
     sub-word-len
     part-word-len-start
-    part-word-len-end
+    (λ c. search needs)
     shared-slice-read-word-len
     word-len-requires
     returns-2)

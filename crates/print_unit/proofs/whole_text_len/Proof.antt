@@ -9,15 +9,6 @@ use Rattle.print_unit.proofs.TextLaws.{is-whole, numeral-len, prefix-mo
 use Rattle.print_unit.proofs.whole_text_len.Statement.{statement}
 use Rattle.print_unit.proofs.whole_text_len.Tie as tie
 
-prefix-len-requires : tie.Need-prefix-len-requires
-prefix-len-requires c κs = search needs
-
-size-requires : tie.Need-size-requires
-size-requires c κs = search needs
-
-cast-digit-count : tie.Need-cast-digit-count
-cast-digit-count c = search needs
-
 digit-count-requires : tie.Need-digit-count-requires
 digit-count-requires c κs = (omega (arith, size-low (c .before .before .args .letter), c .size .ensures), omega (arith, size-high (c .before .before .args .letter), c .size .ensures))
 
@@ -33,9 +24,9 @@ pub whole-text-len-spec : {M : Type 1} → statement M
 whole-text-len-spec =
     tie.close
     (tie.spec
-    prefix-len-requires
-    size-requires
-    cast-digit-count
+    (λ c κs. search needs)
+    (λ c κs. search needs)
+    (λ c. search needs)
     digit-count-requires
     add-result
     returns)

@@ -10,9 +10,6 @@ use Rattle.print_unit.proofs.UnitLaws.{as-keyed, as-name, as-string}
 use Rattle.print_unit.proofs.word_len.Statement.{statement}
 use Rattle.print_unit.proofs.word_len.Tie as tie
 
-doubled-len-requires : tie.Need-doubled-len-requires
-doubled-len-requires c κs = search needs
-
 add-result : tie.Need-add-result
 add-result c = let a = c .before .before .before .args in let w = now (a .content) in omega (arith, c .doubled-len .ensures, at-most w, c .before .before .before .pre)
 
@@ -21,9 +18,6 @@ returns c =
     let a = c .before .before .before .args in
     let w = now (a .content) in
     rw (as-string (a .base) (a .tag) w (c .before .if1 .taken)) (omega (arith, string-len w, c .doubled-len .ensures))
-
-prefix-len-requires : tie.Need-prefix-len-requires
-prefix-len-requires c κs = search needs
 
 add-result-2 : tie.Need-add-result-2
 add-result-2 c = let a = c .before .before .before .before .args in omega (arith, c .prefix-len .ensures, prefix-most (a .base) (byte "K"), c .before .before .before .before .pre)
@@ -41,10 +35,10 @@ pub word-len-spec : {M : Type 1} → statement M
 word-len-spec =
     tie.close
     (tie.spec
-    doubled-len-requires
+    (λ c κs. search needs)
     add-result
     returns
-    prefix-len-requires
+    (λ c κs. search needs)
     add-result-2
     returns-2
     returns-3)

@@ -16,9 +16,6 @@ use Rattle.print_value.proofs.element_len.Tie as tie
 shared-slice-read-head-len : tie.Need-shared-slice-read-head-len
 shared-slice-read-head-len c = let f = c .before .before .pre in own-inside (f .has)
 
-head-len-requires : tie.Need-head-len-requires
-head-len-requires c κs = search needs
-
 add-first : tie.Need-add-first
 add-first c =
     let f = c .before .before .before .pre in
@@ -118,7 +115,7 @@ element-len-spec =
     tie.close
     (tie.spec
     shared-slice-read-head-len
-    head-len-requires
+    (λ c κs. search needs)
     add-first
     joint-len-requires
     printed-from-requires

@@ -34,9 +34,6 @@ add-number-at-2 c = omega (arith, c .before .before .before .before .before .pre
 number-at-requires-2 : tie.Need-number-at-requires-2
 number-at-requires-2 c κs = omega (arith, c .before .before .before .before .before .pre .head (c .before .before .if1 .left))
 
-range-end-len-requires : tie.Need-range-end-len-requires
-range-end-len-requires c κs = search needs
-
 returns-2 : tie.Need-returns-2
 returns-2 c =
     let a = c .before .before .before .before .before .before .before .args in
@@ -55,5 +52,5 @@ end-len-spec =
     number-at-requires
     add-number-at-2
     number-at-requires-2
-    range-end-len-requires
+    (λ c κs. search needs)
     returns-2)

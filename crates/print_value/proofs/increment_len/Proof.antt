@@ -10,9 +10,6 @@ use Rattle.print_value.proofs.increment_len.Tie as tie
 returns : tie.Need-returns
 returns c = sym (ap length (increment-none (c .before .args .base) (c .before .args .letter) (c .before .args .increment) (c .if1 .taken)))
 
-whole-text-len-requires : tie.Need-whole-text-len-requires
-whole-text-len-requires c κs = search needs
-
 add-result : tie.Need-add-result
 add-result c = omega (arith, c .whole-text-len .ensures, whole-numeral-most (c .before .before .args .base) (c .before .before .args .letter) (c .before .before .args .increment))
 
@@ -20,4 +17,4 @@ returns-2 : tie.Need-returns-2
 returns-2 c = omega (arith, c .whole-text-len .ensures, ap length (increment-some (c .before .before .args .base) (c .before .before .args .letter) (c .before .before .args .increment) (c .before .if1 .left)))
 
 pub increment-len-spec : {M : Type 1} → statement M
-increment-len-spec = tie.close (tie.spec returns whole-text-len-requires add-result returns-2)
+increment-len-spec = tie.close (tie.spec returns (λ c κs. search needs) add-result returns-2)

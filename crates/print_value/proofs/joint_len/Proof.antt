@@ -11,9 +11,6 @@ returns c =
     let s = now (a .rec) in
     size-first s (a .from) (a .at) (a .first) (a .lead) (a .until) (c .if1 .taken)
 
-short-form-requires : tie.Need-short-form-requires
-short-form-requires c κs = search needs
-
 returns-2 : tie.Need-returns-2
 returns-2 c =
     let a = c .before .before .before .before .args in
@@ -27,4 +24,4 @@ returns-3 c =
     size-later s (a .from) (a .at) (a .first) (a .lead) (a .until) (c .before .before .if1 .left) (c .before .short-form .ensures) (rw (c .if2 .left))
 
 pub joint-len-spec : {M : Type 1} → statement M
-joint-len-spec = tie.close (tie.spec returns short-form-requires returns-2 returns-3)
+joint-len-spec = tie.close (tie.spec returns (λ c κs. search needs) returns-2 returns-3)

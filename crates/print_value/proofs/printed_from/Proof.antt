@@ -5,12 +5,6 @@ use Rattle.print_value.specs.Values.{printedFrom}
 use Rattle.print_value.proofs.printed_from.Statement.{statement}
 use Rattle.print_value.proofs.printed_from.Tie as tie
 
-sub-result : tie.Need-sub-result
-sub-result c = search needs
-
-add-result : tie.Need-add-result
-add-result c = search needs
-
 returns : tie.Need-returns
 unfolding printedFrom
 returns c = rw (eq-eqb _ _ (c .if1 .taken))
@@ -20,4 +14,4 @@ unfolding printedFrom
 returns-2 c = rw (ne-eqb _ _ (c .if1 .left))
 
 pub printed-from-spec : {M : Type 1} → statement M
-printed-from-spec = tie.close (tie.spec sub-result add-result returns returns-2)
+printed-from-spec = tie.close (tie.spec (λ c. search needs) (λ c. search needs) returns returns-2)

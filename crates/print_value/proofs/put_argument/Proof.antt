@@ -19,9 +19,6 @@ sub-put-units c = let f = c .before .before .before .before .before .before .pre
 part-put-units-start : tie.Need-part-put-units-start
 part-put-units-start c = let f = c .before .before .before .before .before .before .pre in omega (arith, f .fits)
 
-part-put-units-end : tie.Need-part-put-units-end
-part-put-units-end c = search needs
-
 put-units-requires : tie.Need-put-units-requires
 put-units-requires c κs =
     let f = c .before .before .before .before .before .before .before .pre in
@@ -32,9 +29,6 @@ add-t11 : tie.Need-add-t11
 add-t11 c =
     let f = c .before .before .before .before .before .before .before .before .before .before .before .pre in
     omega (arith, f .few, f .fits, c .before .before .before .before .before .before .before .before .before .before .before .good .0 .0, c .before .before .before .put-units .ensures (f .b) (f .i) (f .l) (f .rest) (f .has) .0 .bytes)
-
-same-length : tie.Need-same-length
-same-length c = search needs
 
 returns : tie.Need-returns
 returns c =
@@ -53,8 +47,8 @@ put-argument-spec =
     put-joint-requires
     sub-put-units
     part-put-units-start
-    part-put-units-end
+    (λ c. search needs)
     put-units-requires
     add-t11
-    same-length
+    (λ c. search needs)
     returns)

@@ -20,9 +20,6 @@ sub-put-unit c = omega (arith, c .before .before .before .before .before .before
 part-put-unit-start : tie.Need-part-put-unit-start
 part-put-unit-start c = omega (arith, c .before .before .before .before .before .before .pre .fits)
 
-part-put-unit-end : tie.Need-part-put-unit-end
-part-put-unit-end c = search needs
-
 put-unit-requires : tie.Need-put-unit-requires
 put-unit-requires c κs =
     let f = c .before .before .before .before .before .before .before .pre in
@@ -30,9 +27,6 @@ put-unit-requires c κs =
 
 add-result : tie.Need-add-result
 add-result c = let f = c .before .before .before .before .before .before .before .before .before .before .pre in omega (arith, f .fits, c .before .before .put-unit .ensures (f .b) (f .u) (f .has) .0)
-
-same-length : tie.Need-same-length
-same-length c = search needs
 
 returns : tie.Need-returns
 returns c = λ b u h. (
@@ -47,8 +41,8 @@ put-dashed-spec =
     put-u8-requires
     sub-put-unit
     part-put-unit-start
-    part-put-unit-end
+    (λ c. search needs)
     put-unit-requires
     add-result
-    same-length
+    (λ c. search needs)
     returns)

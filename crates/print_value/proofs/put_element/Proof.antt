@@ -17,9 +17,6 @@ use Rattle.print_value.proofs.put_element.Tie as tie
 shared-slice-read-head-len : tie.Need-shared-slice-read-head-len
 shared-slice-read-head-len c = let f = c .before .before .before .pre in own-inside (f .has)
 
-head-len-requires : tie.Need-head-len-requires
-head-len-requires c κs = search needs
-
 add-first : tie.Need-add-first
 add-first c =
     let f = c .before .before .before .before .pre in
@@ -88,9 +85,6 @@ part-put-end-start c =
     let ol : length (c .before .before .put-argument .last .0) ≡ length (now (a .out)) = ap length (p .1) ∙ length-over J (now (a .out)) (omega (arith, f .fits, long)) in
     omega (arith, p .0 .bytes, ol, f .fits, long, lj)
 
-part-put-end-end : tie.Need-part-put-end-end
-part-put-end-end c = search needs
-
 put-end-requires : tie.Need-put-end-requires
 put-end-requires c κs =
     let f = c .before .before .before .before .before .before .before .before .before .before .before .pre in
@@ -122,9 +116,6 @@ add-t15 c =
     let z = end-is (f .e) (f .has) (a .at + c .before .before .before .before .before .before .before .before .before .before .head-len .result) (c .before .before .before .before .before .before .put-argument .result .last) q (p .0 .last ∙ x .last) in
     omega (arith, c .before .before .put-end .ensures .0, ap length (z .0), p .0 .bytes, f .fits, long, lj, c .before .before .before .before .before .before .before .before .before .before .before .before .before .before .good .0 .0)
 
-same-length : tie.Need-same-length
-same-length c = search needs
-
 returns : tie.Need-returns
 returns c = λ b before e rest h s.
     let a = c .before .before .before .before .before .before .before .before .before .before .before .before .before .before .args in
@@ -151,15 +142,15 @@ put-element-spec =
     tie.close
     (tie.spec
     shared-slice-read-head-len
-    head-len-requires
+    (λ c κs. search needs)
     add-first
     joint-len-requires
     printed-from-requires
     put-argument-requires
     sub-put-end
     part-put-end-start
-    part-put-end-end
+    (λ c. search needs)
     put-end-requires
     add-t15
-    same-length
+    (λ c. search needs)
     returns)

@@ -40,9 +40,6 @@ put-range-end-requires c κs =
     let x = end-some (now (a .rec)) (a .at) (a .first) (a .last) (a .base) (c .before .before .before .before .if1 .left) (c .before .number-at .ensures) (c .number-at2 .ensures) in
     omega (arith, ap length x, c .before .before .before .before .before .before .before .before .pre .1)
 
-same-length : tie.Need-same-length
-same-length c = search needs
-
 returns-2 : tie.Need-returns-2
 returns-2 c =
     let a = c .before .before .before .before .before .before .before .before .before .before .before .args in
@@ -62,5 +59,5 @@ put-end-spec =
     add-number-at-2
     number-at-requires-2
     put-range-end-requires
-    same-length
+    (λ c. search needs)
     returns-2)

@@ -33,9 +33,6 @@ part-put-whole-text-start c =
     let e = increment-some (a .base) (a .letter) (a .increment) (c .before .before .before .before .if1 .left) in
     omega (arith, c .before .before .before .before .before .before .pre, ap length e)
 
-part-put-whole-text-end : tie.Need-part-put-whole-text-end
-part-put-whole-text-end c = search needs
-
 put-whole-text-requires : tie.Need-put-whole-text-requires
 put-whole-text-requires c κs =
     let a = c .before .before .before .before .before .before .before .args in
@@ -46,9 +43,6 @@ add-result : tie.Need-add-result
 add-result c =
     let a = c .before .before .before .before .before .before .before .before .before .before .args in
     omega (arith, c .before .before .put-whole-text .ensures .0, whole-numeral-most (a .base) (a .letter) (a .increment))
-
-same-length : tie.Need-same-length
-same-length c = search needs
 
 returns-2 : tie.Need-returns-2
 returns-2 c =
@@ -64,8 +58,8 @@ put-increment-spec =
     put-plus-requires
     sub-put-whole-text
     part-put-whole-text-start
-    part-put-whole-text-end
+    (λ c. search needs)
     put-whole-text-requires
     add-result
-    same-length
+    (λ c. search needs)
     returns-2)

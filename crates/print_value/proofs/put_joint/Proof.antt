@@ -22,17 +22,11 @@ slice-write-out-2 c =
     let n = c .before .before .args .joint in
     simp length-set (omega (arith, c .before .before .pre, ap length (joint-two n (c .before .if1 .left) (c .if2 .taken))))
 
-same-length : tie.Need-same-length
-same-length c = search needs
-
 returns-2 : tie.Need-returns-2
 returns-2 c =
     let n = c .before .before .args .joint in
     let old = now (c .before .before .args .out) in
     rw (joint-two n (c .before .if1 .left) (c .if2 .taken)) (sets-eq (byte "&" ∷ byte "-" ∷ []) old 0 (omega (arith, c .before .before .pre, ap length (joint-two n (c .before .if1 .left) (c .if2 .taken)))))
-
-same-length-2 : tie.Need-same-length-2
-same-length-2 c = search needs
 
 returns-3 : tie.Need-returns-3
 returns-3 c =
@@ -47,7 +41,7 @@ put-joint-spec =
     returns
     slice-write-out
     slice-write-out-2
-    same-length
+    (λ c. search needs)
     returns-2
-    same-length-2
+    (λ c. search needs)
     returns-3)

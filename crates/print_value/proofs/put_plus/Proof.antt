@@ -7,17 +7,8 @@ use Rattle.rules.specs.Characters.{byte}
 use Rattle.print_value.proofs.put_plus.Statement.{statement}
 use Rattle.print_value.proofs.put_plus.Tie as tie
 
-slice-write-out : tie.Need-slice-write-out
-slice-write-out c = search needs
-
-slice-write-out-2 : tie.Need-slice-write-out-2
-slice-write-out-2 c = search needs
-
-same-length : tie.Need-same-length
-same-length c = search needs
-
 returns : tie.Need-returns
 returns c = sets-eq (byte "+" ∷ byte "+" ∷ []) (now (c .args .out)) 0 (c .pre)
 
 pub put-plus-spec : {M : Type 1} → statement M
-put-plus-spec = tie.close (tie.spec slice-write-out slice-write-out-2 same-length returns)
+put-plus-spec = tie.close (tie.spec (λ c. search needs) (λ c. search needs) (λ c. search needs) returns)

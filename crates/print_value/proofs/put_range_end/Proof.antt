@@ -31,9 +31,6 @@ part-put-whole-text-start c =
     let l = range-len (a .base) (a .letter) (a .compound) (a .upper) (a .increment) in
     omega (arith, c .before .before .before .before .before .pre, l, c .before .before .put-through .ensures .0)
 
-part-put-whole-text-end : tie.Need-part-put-whole-text-end
-part-put-whole-text-end c = search needs
-
 put-whole-text-requires : tie.Need-put-whole-text-requires
 put-whole-text-requires c κs =
     let a = c .before .before .before .before .before .before .args in
@@ -57,9 +54,6 @@ part-put-increment-start c =
     let l = range-len (a .base) (a .letter) (a .compound) (a .upper) (a .increment) in
     omega (arith, c .before .before .before .before .before .before .before .before .before .pre, l, c .before .before .before .before .before .before .put-through .ensures .0, c .before .before .put-whole-text .ensures .0)
 
-part-put-increment-end : tie.Need-part-put-increment-end
-part-put-increment-end c = search needs
-
 put-increment-requires : tie.Need-put-increment-requires
 put-increment-requires c κs =
     let a = c .before .before .before .before .before .before .before .before .before .before .args in
@@ -75,9 +69,6 @@ add-result c =
     let a = c .before .before .before .before .before .before .before .before .before .before .before .before .before .args in
     let l = range-len (a .base) (a .letter) (a .compound) (a .upper) (a .increment) in
     omega (arith, c .before .before .before .before .before .before .before .before .before .before .put-through .ensures .0, c .before .before .before .before .before .before .put-whole-text .ensures .0, c .before .before .put-increment .ensures .0, range-most (a .base) (a .letter) (a .compound) (a .upper) (a .increment), l)
-
-same-length : tie.Need-same-length
-same-length c = search needs
 
 returns : tie.Need-returns
 unfolding rangeEnd
@@ -98,13 +89,13 @@ put-range-end-spec =
     put-through-requires
     sub-put-whole-text
     part-put-whole-text-start
-    part-put-whole-text-end
+    (λ c. search needs)
     put-whole-text-requires
     add-q
     sub-put-increment
     part-put-increment-start
-    part-put-increment-end
+    (λ c. search needs)
     put-increment-requires
     add-result
-    same-length
+    (λ c. search needs)
     returns)

@@ -20,16 +20,10 @@ slice-write-out-2 c = simp length-set (omega (arith, c .pre, through-least (c .a
 slice-write-out-3 : tie.Need-slice-write-out-3
 slice-write-out-3 c = simp length-set (omega (arith, c .before .pre, ap length (through-compound (c .before .args .compound) (c .if1 .taken))))
 
-same-length : tie.Need-same-length
-same-length c = search needs
-
 returns : tie.Need-returns
 returns c =
     let e = through-compound (c .before .args .compound) (c .if1 .taken) in
     rw e (refl, sets-eq (byte "&" ∷ byte "&" ∷ byte "-" ∷ []) (now (c .before .args .out)) 0 (omega (arith, c .before .pre, ap length e)))
-
-same-length-2 : tie.Need-same-length-2
-same-length-2 c = search needs
 
 returns-2 : tie.Need-returns-2
 returns-2 c =
@@ -43,7 +37,7 @@ put-through-spec =
     slice-write-out
     slice-write-out-2
     slice-write-out-3
-    same-length
+    (λ c. search needs)
     returns
-    same-length-2
+    (λ c. search needs)
     returns-2)

@@ -45,9 +45,6 @@ loop-holds c = λ b i l rest h.
     let p = c .before .before .put-unit .ensures b i (first-is h (c .before .before .before .before .before .behind .ensures)) in
     (unitText b i, going-start h (c .before .before .before .before .before .behind .ensures), sym (p .0), again (unitText b i) (now (c .before .before .before .before .before .before .before .before .args .out)) (p .1))
 
-tag-at-requires : tie.Need-tag-at-requires Inv-loop μ-loop
-tag-at-requires c κs = search needs
-
 behind-requires-2 : tie.Need-behind-requires-2 Inv-loop μ-loop
 behind-requires-2 c κs =
     let f = c .before .before .before .before .before .before .before .before .before .before .before .pre in
@@ -73,9 +70,6 @@ part-put-dashed-start c =
     let o : c .before .before .before .loop .out ≡ over (w .0) old = written-all (unitText (f .b) (f .i)) (w .0) old (w .3) (c .before .before .before .before .before .before .put-unit .ensures (f .b) (f .i) (first-is (f .has) (c .before .before .before .before .before .before .before .before .before .behind .ensures)) .1) (w .1 .starts) in
     let long = ap length o ∙ length-over (w .0) old (omega (arith, going-done (f .has) (w .1), f .fits)) in
     omega (arith, going-done (f .has) (w .1), w .2, f .fits, long)
-
-part-put-dashed-end : tie.Need-part-put-dashed-end Inv-loop μ-loop
-part-put-dashed-end c = search needs
 
 sub-put-dashed-2 : tie.Need-sub-put-dashed-2 Inv-loop μ-loop
 sub-put-dashed-2 c = omega (arith, c .before .behind2 .ensures)
@@ -155,11 +149,11 @@ put-units-spec =
     part-put-unit-end
     put-unit-requires
     loop-holds
-    tag-at-requires
+    (λ c κs. search needs)
     behind-requires-2
     sub-put-dashed
     part-put-dashed-start
-    part-put-dashed-end
+    (λ c. search needs)
     sub-put-dashed-2
     part-put-dashed-start-2
     part-put-dashed-end-2

@@ -43,9 +43,6 @@ part-put-element-start c =
     let long : length (c .loop .out) ≡ length (now (a .out)) = ap length (w .3) ∙ length-over (w .0) (now (a .out)) (omega (arith, room, f .fits)) in
     omega (arith, room, w .2, f .fits, long)
 
-part-put-element-end : tie.Need-part-put-element-end Inv-loop μ-loop
-part-put-element-end c = search needs
-
 put-element-requires : tie.Need-put-element-requires Inv-loop μ-loop
 put-element-requires c κs =
     let f = c .before .before .before .before .pre in
@@ -66,9 +63,6 @@ add-k c =
     let room = here-room (f .has) x in
     let p = c .before .before .before .put-element .ensures (f .b) (x .before) (x .e) (valueBytes (x .es) ++ f .rest) i (x .stood) in
     omega (arith, p .0 .bytes, room, w .2, f .fits, c .before .before .before .before .before .before .before .before .good .0 .0)
-
-tag-at-requires : tie.Need-tag-at-requires Inv-loop μ-loop
-tag-at-requires c κs = search needs
 
 same-length : tie.Need-same-length Inv-loop μ-loop
 same-length c =
@@ -119,10 +113,10 @@ put-value-spec =
     loop-holds
     sub-put-element
     part-put-element-start
-    part-put-element-end
+    (λ c. search needs)
     put-element-requires
     add-k
-    tag-at-requires
+    (λ c κs. search needs)
     same-length
     returns
     loop-less

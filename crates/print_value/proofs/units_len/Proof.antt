@@ -40,9 +40,6 @@ unit-len-requires c κs = let f = c .before .before .before .pre in record { b =
 loop-holds : tie.Need-loop-holds Inv-loop μ-loop
 loop-holds c = λ b i l rest h. (unitText b i, going-start h (c .before .before .behind .ensures), sym (c .unit-len .ensures b i (first-is h (c .before .before .behind .ensures))))
 
-tag-at-requires : tie.Need-tag-at-requires Inv-loop μ-loop
-tag-at-requires c κs = search needs
-
 behind-requires-2 : tie.Need-behind-requires-2 Inv-loop μ-loop
 behind-requires-2 c κs =
     let f = c .before .before .before .before .before .before .before .pre in
@@ -123,7 +120,7 @@ units-len-spec =
     part-unit-len-end
     unit-len-requires
     loop-holds
-    tag-at-requires
+    (λ c κs. search needs)
     behind-requires-2
     sub-unit-len-2
     part-unit-len-start-2

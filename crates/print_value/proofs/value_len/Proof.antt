@@ -41,9 +41,6 @@ add-k c =
     let p = c .before .element-len .ensures (f .b) (x .before) (x .e) (valueBytes (x .es) ++ f .rest) i (x .stood) in
     omega (arith, p .bytes, room, w .2, f .fits)
 
-tag-at-requires : tie.Need-tag-at-requires Inv-loop μ-loop
-tag-at-requires c κs = search needs
-
 returns : tie.Need-returns Inv-loop μ-loop
 returns c = λ b v rest h.
     let w = c .before .before .before .before .loop .inv b v rest h in
@@ -79,7 +76,7 @@ value-len-spec =
     loop-holds
     element-len-requires
     add-k
-    tag-at-requires
+    (λ c κs. search needs)
     returns
     loop-less
     loop-again)

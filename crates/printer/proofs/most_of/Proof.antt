@@ -5,9 +5,6 @@ use borrow.Author.Needs.{needs}
 use Rattle.printer.proofs.most_of.Statement.{statement}
 use Rattle.printer.proofs.most_of.Tie as tie
 
-bound-requires : tie.Need-bound-requires
-bound-requires c κs = search needs
-
 returns : tie.Need-returns
 returns c = bound-text (now (c .before .before .before .args .rec)) (c .bound .ensures)
 
@@ -15,4 +12,4 @@ returns-2 : tie.Need-returns-2
 returns-2 c = short-text (now (c .before .before .args .rec)) (c .if1 .left)
 
 pub most-of-spec : {M : Type 1} → statement M
-most-of-spec = tie.close (tie.spec bound-requires returns returns-2)
+most-of-spec = tie.close (tie.spec (λ c κs. search needs) returns returns-2)

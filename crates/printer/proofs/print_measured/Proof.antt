@@ -6,17 +6,8 @@ use borrow.Author.Needs.{needs}
 use Rattle.printer.proofs.print_measured.Statement.{statement}
 use Rattle.printer.proofs.print_measured.Tie as tie
 
-text-len-requires : tie.Need-text-len-requires
-text-len-requires c κs = search needs
-
-cast-t5 : tie.Need-cast-t5
-cast-t5 c = search needs
-
 returns : tie.Need-returns
 returns c = answer-long (now (c .before .before .before .before .args .rec)) (now (c .before .before .before .before .args .out)) (c .before .before .before .before .pre) (c .before .text-len .ensures) (c .if1 .taken)
-
-cast-t7 : tie.Need-cast-t7
-cast-t7 c = search needs
 
 returns-2 : tie.Need-returns-2
 returns-2 c = answer-room (now (c .before .before .before .before .before .args .rec)) (now (c .before .before .before .before .before .args .out)) (c .before .before .before .before .before .pre) (c .before .before .text-len .ensures) (c .before .if1 .left) (c .if2 .taken)
@@ -27,9 +18,6 @@ put-text-requires c κs = (c .before .before .before .before .before .before .pr
 cast-t10 : tie.Need-cast-t10
 cast-t10 c = omega (arith, c .before .before .before .before .before .before .text-len .ensures, c .before .before .before .before .before .if1 .left, c .before .before .put-text .ensures .0)
 
-same-length : tie.Need-same-length
-same-length c = search needs
-
 returns-3 : tie.Need-returns-3
 returns-3 c = answer-done (now (c .before .before .before .before .before .before .before .before .before .args .rec)) (now (c .before .before .before .before .before .before .before .before .before .args .out)) (c .before .before .before .before .before .before .before .before .before .pre) (omega (arith, c .before .before .before .before .before .before .text-len .ensures, c .before .before .before .before .before .if1 .left)) (omega (arith, c .before .before .before .before .before .before .text-len .ensures, c .before .before .before .before .if2 .left)) (c .before .before .put-text .ensures .0) (c .before .before .put-text .ensures .1)
 
@@ -37,12 +25,12 @@ pub print-measured-spec : {M : Type 1} → statement M
 print-measured-spec =
     tie.close
     (tie.spec
-    text-len-requires
-    cast-t5
+    (λ c κs. search needs)
+    (λ c. search needs)
     returns
-    cast-t7
+    (λ c. search needs)
     returns-2
     put-text-requires
     cast-t10
-    same-length
+    (λ c. search needs)
     returns-3)

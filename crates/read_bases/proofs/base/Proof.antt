@@ -4,12 +4,6 @@ use Rattle.read_bases.proofs.BaseLaws.{base-past, base-letter, base-oth
 use Rattle.read_bases.proofs.base.Statement.{statement}
 use Rattle.read_bases.proofs.base.Tie as tie
 
-shared-slice-read-l : tie.Need-shared-slice-read-l
-shared-slice-read-l c = search needs
-
-is-letter-requires : tie.Need-is-letter-requires
-is-letter-requires c κs = search needs
-
 returns : tie.Need-returns
 returns c = search (needs, base-letter)
 
@@ -20,4 +14,4 @@ returns-3 : tie.Need-returns-3
 returns-3 c = search (needs, base-past)
 
 pub base-spec : {M : Type 1} → statement M
-base-spec = tie.close (tie.spec shared-slice-read-l is-letter-requires returns returns-2 returns-3)
+base-spec = tie.close (tie.spec (λ c. search needs) (λ c κs. search needs) returns returns-2 returns-3)

@@ -19,29 +19,11 @@ abbrev μ-loop : tie.MeasureT-loop
 loop-holds : tie.Need-loop-holds Inv-loop μ-loop
 loop-holds c = (refl, omega arith)
 
-cast-t5 : tie.Need-cast-t5 Inv-loop μ-loop
-cast-t5 c = search needs
-
 returns : tie.Need-returns Inv-loop μ-loop
 returns c = search (needs, letters-many)
 
-shared-slice-read-is-letter : tie.Need-shared-slice-read-is-letter Inv-loop μ-loop
-shared-slice-read-is-letter c = search needs
-
-is-letter-requires : tie.Need-is-letter-requires Inv-loop μ-loop
-is-letter-requires c κs = search needs
-
-add-i : tie.Need-add-i Inv-loop μ-loop
-add-i c = search needs
-
-loop-less : tie.Need-loop-less Inv-loop μ-loop
-loop-less c = search needs
-
 loop-again : tie.Need-loop-again Inv-loop μ-loop
 loop-again c = (search (needs, letters-more), search needs)
-
-cast-t9 : tie.Need-cast-t9 Inv-loop μ-loop
-cast-t9 c = search needs
 
 returns-2 : tie.Need-returns-2 Inv-loop μ-loop
 returns-2 c = search (needs, letters-wrong)
@@ -56,13 +38,13 @@ letters-spec =
     Inv-loop
     μ-loop
     loop-holds
-    cast-t5
+    (λ c. search needs)
     returns
-    shared-slice-read-is-letter
-    is-letter-requires
-    add-i
-    loop-less
+    (λ c. search needs)
+    (λ c κs. search needs)
+    (λ c. search needs)
+    (λ c. search needs)
     loop-again
-    cast-t9
+    (λ c. search needs)
     returns-2
     returns-3)

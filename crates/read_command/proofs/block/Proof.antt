@@ -6,18 +6,9 @@ use Rattle.read_command.proofs.TurnLaws.{block-is}
 use Rattle.read_command.proofs.block.Statement.{statement}
 use Rattle.read_command.proofs.block.Tie as tie
 
-is-named-requires : tie.Need-is-named-requires
-is-named-requires c κs = search needs
-
-open-block-requires : tie.Need-open-block-requires
-open-block-requires c κs = search needs
-
-read-places-requires : tie.Need-read-places-requires
-read-places-requires c κs = search needs
-
 returns : tie.Need-returns
 returns c = let a = c .before .before .before .before .before .before .args in block-is (basesIn (now (a .bases))) (now (a .toks)) (now (a .contents)) (a .end) (a .t) (c .before .before .is-named .ensures) (c .before .open-block .ensures) (c .read-places .ensures)
 
 pub block-spec : {M : Type 1} → statement M
 block-spec =
-    tie.close (tie.spec is-named-requires open-block-requires read-places-requires returns)
+    tie.close (tie.spec (λ c κs. search needs) (λ c κs. search needs) (λ c κs. search needs) returns)

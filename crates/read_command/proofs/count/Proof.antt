@@ -7,29 +7,11 @@ use Prim.Native.Nat.{_*_, _≤_}
 use Rattle.read_command.proofs.count.Statement.{statement}
 use Rattle.read_command.proofs.count.Tie as tie
 
-add-places : tie.Need-add-places
-add-places c = search needs
-
-cast-cap : tie.Need-cast-cap
-cast-cap c = search needs
-
-add-cap : tie.Need-add-cap
-add-cap c = search needs
-
-cap-requires : tie.Need-cap-requires
-cap-requires c κs = search needs
-
 returns : tie.Need-returns
 returns c = rw (c .before .cap .ensures, c .if1 .taken)
 
-cast-product : tie.Need-cast-product
-cast-product c = search needs
-
 mul-product : tie.Need-mul-product
 mul-product c = let p = c .before .before .before .before .before .args .t .product in let a = c .before .before .before .before .before .args .args in let h : p ≤ 4294967295 = omega arith in let g : a ≤ 4294967295 = omega arith in let m : p * a ≤ 4294967295 * 4294967295 = mul-le-mul h g in omega arith
-
-cast-t12 : tie.Need-cast-t12
-cast-t12 c = search needs
 
 returns-2 : tie.Need-returns-2
 returns-2 c = rw (c .before .before .before .cap .ensures, c .before .before .if1 .left, le-leb _ _ (c .if2 .taken))
@@ -41,13 +23,13 @@ pub count-spec : {M : Type 1} → statement M
 count-spec =
     tie.close
     (tie.spec
-    add-places
-    cast-cap
-    add-cap
-    cap-requires
+    (λ c. search needs)
+    (λ c. search needs)
+    (λ c. search needs)
+    (λ c κs. search needs)
     returns
-    cast-product
+    (λ c. search needs)
     mul-product
-    cast-t12
+    (λ c. search needs)
     returns-2
     returns-3)

@@ -3,12 +3,6 @@ use borrow.Author.Needs.{needs}
 use Rattle.read_command.proofs.finish.Statement.{statement}
 use Rattle.read_command.proofs.finish.Tie as tie
 
-enum-known-blocks : tie.Need-enum-known-blocks
-enum-known-blocks c = search needs
-
-enum-known-blocks-2 : tie.Need-enum-known-blocks-2
-enum-known-blocks-2 c = search needs
-
 returns : tie.Need-returns
 returns c = rw (c .before .before .blocks3 .given .1, c .if1 .taken)
 
@@ -20,4 +14,4 @@ returns-3 c = rw (c .before .before .blocks3 .given .1, c .if1 .left)
 
 pub finish-spec : {M : Type 1} → statement M
 finish-spec =
-    tie.close (tie.spec enum-known-blocks enum-known-blocks-2 returns returns-2 returns-3)
+    tie.close (tie.spec (λ c. search needs) (λ c. search needs) returns returns-2 returns-3)

@@ -9,17 +9,11 @@ use Rattle.read_command.proofs.TurnLaws.{kind-is}
 use Rattle.read_command.proofs.is_named.Statement.{statement}
 use Rattle.read_command.proofs.is_named.Tie as tie
 
-find-requires : tie.Need-find-requires
-find-requires c κs = search needs
-
 slice-aggregate-find : tie.Need-slice-aggregate-find
 slice-aggregate-find c = sym (length-take-le (c .before .find .result) (now (c .before .before .before .args .toks)) (found-inside (now (c .before .before .before .args .toks)) 0 6 (c .before .find .ensures) (omega arith)))
-
-find-requires-2 : tie.Need-find-requires-2
-find-requires-2 c κs = search needs
 
 returns : tie.Need-returns
 returns c = kind-is (now (c .before .before .before .before .args .toks)) (c .before .before .find .ensures) (c .find2 .ensures)
 
 pub is-named-spec : {M : Type 1} → statement M
-is-named-spec = tie.close (tie.spec find-requires slice-aggregate-find find-requires-2 returns)
+is-named-spec = tie.close (tie.spec (λ c κs. search needs) slice-aggregate-find (λ c κs. search needs) returns)

@@ -31,35 +31,11 @@ loop-holds c = (refl, omega arith)
 returns : tie.Need-returns Inv-loop μ-loop
 returns c = let a = c .before .before .before .before .before .before .args in let l = c .before .before .loop in blocks-many (basesIn (now (a .bases))) (now (a .toks)) (now (a .contents)) (a .end) (l .i) (l .m) (l .at) (l .t) (l .inv .0) (c .before .loop-test .taken) (c .if1 .taken)
 
-find-requires : tie.Need-find-requires Inv-loop μ-loop
-find-requires c κs = search needs
-
-place-at-requires : tie.Need-place-at-requires Inv-loop μ-loop
-place-at-requires c κs = search needs
-
-mul-block : tie.Need-mul-block Inv-loop μ-loop
-mul-block c = search needs
-
-sub-block : tie.Need-sub-block Inv-loop μ-loop
-sub-block c = search needs
-
-part-block-start : tie.Need-part-block-start Inv-loop μ-loop
-part-block-start c = search needs
-
 part-block-end : tie.Need-part-block-end Inv-loop μ-loop
 part-block-end c = inside (c .before)
 
-block-requires : tie.Need-block-requires Inv-loop μ-loop
-block-requires c κs = search needs
-
-enum-known-no : tie.Need-enum-known-no Inv-loop μ-loop
-enum-known-no c = search needs
-
 returns-2 : tie.Need-returns-2 Inv-loop μ-loop
 returns-2 c = let a = c .before .before .before .before .before .before .before .before .before .before .before .before .before .args in let l = c .before .before .before .before .before .before .before .before .before .loop in let v = c .before .no .given .0 in blocks-stop (basesIn (now (a .bases))) (now (a .toks)) (now (a .contents)) (a .end) (l .i) (l .m) (l .at) (l .t) (v .0) (v .1 .0) (l .inv .0) (c .before .before .before .before .before .before .before .before .loop-test .taken) (c .before .before .before .before .before .before .before .if1 .left) (c .before .before .before .before .before .before .find .ensures) (c .before .before .before .before .before .place-at .ensures) (c .before .before .before .block .ensures) (c .before .no .given .1)
-
-enum-known-after : tie.Need-enum-known-after Inv-loop μ-loop
-enum-known-after c = search needs
 
 add-m : tie.Need-add-m Inv-loop μ-loop
 add-m c = omega (arith, c .before .before .before .before .before .before .before .if1 .left)
@@ -84,16 +60,16 @@ read-blocks-spec =
     μ-loop
     loop-holds
     returns
-    find-requires
-    place-at-requires
-    mul-block
-    sub-block
-    part-block-start
+    (λ c κs. search needs)
+    (λ c κs. search needs)
+    (λ c. search needs)
+    (λ c. search needs)
+    (λ c. search needs)
     part-block-end
-    block-requires
-    enum-known-no
+    (λ c κs. search needs)
+    (λ c. search needs)
     returns-2
-    enum-known-after
+    (λ c. search needs)
     add-m
     add-i
     loop-less

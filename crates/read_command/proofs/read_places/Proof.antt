@@ -26,9 +26,6 @@ Inv-loop toks contents bases named end i₀ t₀ marks₀ i t marks =
 abbrev μ-loop : tie.MeasureT-loop
 μ-loop toks contents bases named end i₀ t₀ marks₀ i t marks = length toks + 1 - i
 
-none-requires : tie.Need-none-requires Inv-loop μ-loop
-none-requires c κs = search needs
-
 loop-holds : tie.Need-loop-holds Inv-loop μ-loop
 loop-holds c = let a = c .before .before .before .before .args in places-start (a .named) (basesIn (now (a .bases))) (now (a .toks)) (now (a .contents)) (a .end) (a .start) _
 
@@ -36,48 +33,21 @@ loop-holds c = let a = c .before .before .before .before .args in places-start (
 inside : (c : tie.After-find Inv-loop μ-loop) → c .find .result ≤ length (now (c .before .before .before .before .before .before .before .args .toks))
 inside c = found-inside (now (c .before .before .before .before .before .before .before .args .toks)) (c .before .before .loop .i) 6 (c .find .ensures) (c .before .loop-test .taken)
 
-find-requires : tie.Need-find-requires Inv-loop μ-loop
-find-requires c κs = search needs
-
 slice-aggregate-place : tie.Need-slice-aggregate-place Inv-loop μ-loop
 slice-aggregate-place c = sym (length-take-le (c .before .before .before .loop .i) (now (c .before .before .before .before .before .before .before .before .args .toks)) (c .before .before .loop-test .taken))
 
-mul-place : tie.Need-mul-place Inv-loop μ-loop
-mul-place c = search needs
-
-sub-place : tie.Need-sub-place Inv-loop μ-loop
-sub-place c = search needs
-
-part-place-start : tie.Need-part-place-start Inv-loop μ-loop
-part-place-start c = search needs
-
 part-place-end : tie.Need-part-place-end Inv-loop μ-loop
 part-place-end c = inside (c .before)
-
-place-at-requires : tie.Need-place-at-requires Inv-loop μ-loop
-place-at-requires c κs = search needs
-
-place-requires : tie.Need-place-requires Inv-loop μ-loop
-place-requires c κs = search needs
-
-enum-known-no : tie.Need-enum-known-no Inv-loop μ-loop
-enum-known-no c = search needs
 
 returns : tie.Need-returns Inv-loop μ-loop
 returns c =
     let v = c .before .no .given .0 in
     places-stop (c .before .before .before .before .before .before .before .before .before .loop .inv) (c .before .before .before .before .before .before .before .before .loop-test .taken) (c .before .before .before .before .before .before .before .find .ensures) (c .before .before .before .before .place-at .ensures) (c .before .before .before .place .ensures) (v .0) (v .1 .0) (c .before .no .given .1)
 
-enum-known-args : tie.Need-enum-known-args Inv-loop μ-loop
-enum-known-args c = search needs
-
 count-requires : tie.Need-count-requires Inv-loop μ-loop
 count-requires c κs =
     let v = c .before .args2 .given .0 in
     place-few (c .before .before .before .before .before .before .before .before .before .loop .inv) (c .before .before .before .before .before .before .before .before .loop-test .taken) (c .before .before .before .before .before .before .before .find .ensures) (c .before .before .before .before .place-at .ensures) (c .before .before .before .place .ensures) (v .0) (v .1 .0) (v .1 .1 .0) (v .1 .1 .1 .0) (c .before .args2 .given .1)
-
-add-if-requires : tie.Need-add-if-requires Inv-loop μ-loop
-add-if-requires c κs = search needs
 
 add-i : tie.Need-add-i Inv-loop μ-loop
 add-i c = omega (arith, inside (c .before .before .before .before .before .before .before .before .before), c .before .before .before .before .before .before .before .before .before .before .before .before .before .before .before .before .good .0 .1)
@@ -105,21 +75,21 @@ read-places-spec =
     (tie.spec
     Inv-loop
     μ-loop
-    none-requires
+    (λ c κs. search needs)
     loop-holds
-    find-requires
+    (λ c κs. search needs)
     slice-aggregate-place
-    mul-place
-    sub-place
-    part-place-start
+    (λ c. search needs)
+    (λ c. search needs)
+    (λ c. search needs)
     part-place-end
-    place-at-requires
-    place-requires
-    enum-known-no
+    (λ c κs. search needs)
+    (λ c κs. search needs)
+    (λ c. search needs)
     returns
-    enum-known-args
+    (λ c. search needs)
     count-requires
-    add-if-requires
+    (λ c κs. search needs)
     add-i
     loop-less
     loop-again

@@ -10,38 +10,14 @@ use Rattle.read_command.proofs.CommandLaws.{segments-wrong, segments-fi
 use Rattle.read_command.proofs.segments.Statement.{statement}
 use Rattle.read_command.proofs.segments.Tie as tie
 
-find-requires : tie.Need-find-requires
-find-requires c κs = search needs
-
-place-at-requires : tie.Need-place-at-requires
-place-at-requires c κs = search needs
-
 slice-aggregate-pieces : tie.Need-slice-aggregate-pieces
 slice-aggregate-pieces c = let ts = now (c .before .before .before .before .before .before .args .toks) in sym (length-take-le (c .before .before .find .result) ts (found-inside ts 0 7 (c .before .before .find .ensures) (omega arith)))
-
-pieces-requires : tie.Need-pieces-requires
-pieces-requires c κs = search needs
-
-enum-known-no : tie.Need-enum-known-no
-enum-known-no c = search needs
-
-enum-told : tie.Need-enum-told
-enum-told c = search needs
 
 slice-aggregate-pieces-len : tie.Need-slice-aggregate-pieces-len
 slice-aggregate-pieces-len c = let ts = now (c .before .before .before .before .before .before .before .before .before .before .args .toks) in sym (length-take-le (c .before .before .before .before .before .before .find .result) ts (found-inside ts 0 7 (c .before .before .before .before .before .before .find .ensures) (omega arith)))
 
-pieces-len-requires : tie.Need-pieces-len-requires
-pieces-len-requires c κs = search needs
-
 add-read-blocks : tie.Need-add-read-blocks
 add-read-blocks c = omega (arith, found-inside (now (c .before .before .before .before .before .before .before .before .before .before .before .args .toks)) 0 7 (c .before .before .before .before .before .before .before .find .ensures) (omega arith), c .before .before .before .before .before .before .before .before .before .before .before .good .0 .1)
-
-read-blocks-requires : tie.Need-read-blocks-requires
-read-blocks-requires c κs = search needs
-
-finish-requires : tie.Need-finish-requires
-finish-requires c κs = search needs
 
 returns : tie.Need-returns
 returns c = let a = c .before .before .before .before .before .before .before .before .before .before .args in let v = c .before .no .given .0 in segments-wrong (basesIn (now (a .bases))) (now (a .toks)) (now (a .contents)) (a .end) (v .0) (v .1 .0) (c .before .before .before .before .before .before .find .ensures) (c .before .before .before .before .before .place-at .ensures) (c .before .before .before .pieces .ensures) (c .before .no .given .1)
@@ -53,16 +29,16 @@ pub segments-spec : {M : Type 1} → statement M
 segments-spec =
     tie.close
     (tie.spec
-    find-requires
-    place-at-requires
+    (λ c κs. search needs)
+    (λ c κs. search needs)
     slice-aggregate-pieces
-    pieces-requires
-    enum-known-no
-    enum-told
+    (λ c κs. search needs)
+    (λ c. search needs)
+    (λ c. search needs)
     slice-aggregate-pieces-len
-    pieces-len-requires
+    (λ c κs. search needs)
     add-read-blocks
-    read-blocks-requires
-    finish-requires
+    (λ c κs. search needs)
+    (λ c κs. search needs)
     returns
     returns-2)

@@ -15,17 +15,8 @@ Inv-loop toks contents base leads n₀ c₀ args₀ n c args = Walking (joinsIn 
 abbrev μ-loop : tie.MeasureT-loop
 μ-loop toks contents base leads n₀ c₀ args₀ n c args = count toks - n
 
-arg-end-requires : tie.Need-arg-end-requires Inv-loop μ-loop
-arg-end-requires c κs = search needs
-
 sub-leads : tie.Need-sub-leads Inv-loop μ-loop
 sub-leads c = omega (arith, c .arg-end .ensures 0 [])
-
-add-sep-place : tie.Need-add-sep-place Inv-loop μ-loop
-add-sep-place c = search needs
-
-sep-place-requires : tie.Need-sep-place-requires Inv-loop μ-loop
-sep-place-requires c κs = search needs
 
 returns : tie.Need-returns Inv-loop μ-loop
 returns c = search (needs, walking-long)
@@ -35,32 +26,8 @@ loop-holds c =
     let a = c .before .before .before .before .args in
     walking-none (a .base) (now (a .contents)) (now (a .toks)) (c .before .arg-end .ensures) (omega arith)
 
-count-requires : tie.Need-count-requires Inv-loop μ-loop
-count-requires c κs = search needs
-
-sep-place-requires-2 : tie.Need-sep-place-requires-2 Inv-loop μ-loop
-sep-place-requires-2 c κs = search needs
-
 returns-2 : tie.Need-returns-2 Inv-loop μ-loop
 returns-2 c = search (needs, walking-many)
-
-later-requires : tie.Need-later-requires Inv-loop μ-loop
-later-requires c κs = search needs
-
-outcome-requires : tie.Need-outcome-requires Inv-loop μ-loop
-outcome-requires c κs = search needs
-
-add-c : tie.Need-add-c Inv-loop μ-loop
-add-c c = search needs
-
-cast-args : tie.Need-cast-args Inv-loop μ-loop
-cast-args c = search needs
-
-add-args : tie.Need-add-args Inv-loop μ-loop
-add-args c = search needs
-
-add-args-2 : tie.Need-add-args-2 Inv-loop μ-loop
-add-args-2 c = search needs
 
 loop-less : tie.Need-loop-less Inv-loop μ-loop
 loop-less c =
@@ -91,21 +58,21 @@ all-elements-spec =
     (tie.spec
     Inv-loop
     μ-loop
-    arg-end-requires
+    (λ c κs. search needs)
     sub-leads
-    add-sep-place
-    sep-place-requires
+    (λ c. search needs)
+    (λ c κs. search needs)
     returns
     loop-holds
-    count-requires
-    sep-place-requires-2
+    (λ c κs. search needs)
+    (λ c κs. search needs)
     returns-2
-    later-requires
-    outcome-requires
-    add-c
-    cast-args
-    add-args
-    add-args-2
+    (λ c κs. search needs)
+    (λ c κs. search needs)
+    (λ c. search needs)
+    (λ c. search needs)
+    (λ c. search needs)
+    (λ c. search needs)
     loop-less
     loop-again
     returns-3

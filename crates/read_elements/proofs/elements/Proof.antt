@@ -7,11 +7,5 @@ use Rattle.read_elements.proofs.elements.Tie as tie
 returns : tie.Need-returns
 returns c = search (needs, one-answer)
 
-all-elements-requires : tie.Need-all-elements-requires
-all-elements-requires c κs = search needs
-
-returns-2 : tie.Need-returns-2
-returns-2 c = search needs
-
 pub elements-spec : {M : Type 1} → statement M
-elements-spec = tie.close (tie.spec returns all-elements-requires returns-2)
+elements-spec = tie.close (tie.spec returns (λ c κs. search needs) (λ c. search needs))

@@ -6,23 +6,11 @@ use borrow.Author.Needs.{needs}
 use Rattle.read_elements.proofs.last_end.Statement.{statement}
 use Rattle.read_elements.proofs.last_end.Tie as tie
 
-sep-kind-requires : tie.Need-sep-kind-requires
-sep-kind-requires c κs = search needs
-
 returns : tie.Need-returns
 returns c = search (needs, end-none)
 
-add-result : tie.Need-add-result
-add-result c = search needs
-
 returns-2 : tie.Need-returns-2
 returns-2 c = search (needs, end-short)
-
-add-arg-end : tie.Need-add-arg-end
-add-arg-end c = search needs
-
-arg-end-requires : tie.Need-arg-end-requires
-arg-end-requires c κs = search needs
 
 sub-if3 : tie.Need-sub-if3
 sub-if3 c = omega (arith, c .arg-end .ensures 0 [])
@@ -40,12 +28,12 @@ pub last-end-spec : {M : Type 1} → statement M
 last-end-spec =
     tie.close
     (tie.spec
-    sep-kind-requires
+    (λ c κs. search needs)
     returns
-    add-result
+    (λ c. search needs)
     returns-2
-    add-arg-end
-    arg-end-requires
+    (λ c. search needs)
+    (λ c κs. search needs)
     sub-if3
     sub-if3-2
     returns-3

@@ -11,18 +11,12 @@ use Rattle.read_elements.proofs.ordered.Tie as tie
 add-increment : tie.Need-add-increment
 add-increment c = let a = c .before .before .before .args in omega (arith, inner-room (now (a .toks)) (a .at) refl refl (c .before .before .before .pre) .1)
 
-increment-requires : tie.Need-increment-requires
-increment-requires c κs = search needs
-
 returns : tie.Need-returns
 returns c = search (needs, ord-yes)
-
-unit-place-requires : tie.Need-unit-place-requires
-unit-place-requires c κs = search needs
 
 returns-2 : tie.Need-returns-2
 returns-2 c = search (needs, ord-bad)
 
 pub ordered-spec : {M : Type 1} → statement M
 ordered-spec =
-    tie.close (tie.spec add-increment increment-requires returns unit-place-requires returns-2)
+    tie.close (tie.spec add-increment (λ c κs. search needs) returns (λ c κs. search needs) returns-2)

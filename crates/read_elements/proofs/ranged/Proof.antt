@@ -11,27 +11,6 @@ use Rattle.read_elements.proofs.ranged.Tie as tie
 sub-end-of : tie.Need-sub-end-of
 sub-end-of c = let a = c .before .before .args in omega (arith, inner-room (now (a .toks)) (a .n) refl refl (c .before .before .pre) .0)
 
-end-of-requires : tie.Need-end-of-requires
-end-of-requires c κs = search needs
-
-end-of-requires-2 : tie.Need-end-of-requires-2
-end-of-requires-2 c κs = search needs
-
-both-ends-requires : tie.Need-both-ends-requires
-both-ends-requires c κs = search needs
-
-enum-known-size : tie.Need-enum-known-size
-enum-known-size c = search needs
-
-ordered-requires : tie.Need-ordered-requires
-ordered-requires c κs = search needs
-
-enum-told : tie.Need-enum-told
-enum-told c = search needs
-
-sep-place-requires : tie.Need-sep-place-requires
-sep-place-requires c κs = search needs
-
 returns : tie.Need-returns
 returns c =
     let d = c .before .before .before .before in
@@ -54,12 +33,12 @@ ranged-spec =
     tie.close
     (tie.spec
     sub-end-of
-    end-of-requires
-    end-of-requires-2
-    both-ends-requires
-    enum-known-size
-    ordered-requires
-    enum-told
-    sep-place-requires
+    (λ c κs. search needs)
+    (λ c κs. search needs)
+    (λ c κs. search needs)
+    (λ c. search needs)
+    (λ c κs. search needs)
+    (λ c. search needs)
+    (λ c κs. search needs)
     returns
     returns-2)

@@ -11,26 +11,14 @@ use borrow.Author.Needs.{needs}
 use Rattle.read_elements.proofs.stepped.Statement.{statement}
 use Rattle.read_elements.proofs.stepped.Tie as tie
 
-end-of-requires : tie.Need-end-of-requires
-end-of-requires c κs = search needs
-
 here : (c : tie.After-step-end) → c .before .before .before .before .args .at < count (now (c .before .before .before .before .args .toks))
 here c = let a = c .before .before .before .before .args in inner-room (now (a .toks)) (a .at) {k = 4} {f = false} (sym (c .before .before .before .before .pre .1)) refl refl .1
-
-step-end-requires : tie.Need-step-end-requires
-step-end-requires c κs = search needs
-
-unit-place-requires : tie.Need-unit-place-requires
-unit-place-requires c κs = search needs
 
 returns : tie.Need-returns
 returns c = search (needs, stepped-bad)
 
 add-no-more : tie.Need-add-no-more
 add-no-more c = omega (arith, here (c .before))
-
-no-more-requires : tie.Need-no-more-requires
-no-more-requires c κs = search needs
 
 returns-2 : tie.Need-returns-2
 returns-2 c = search (needs, stepped-more)
@@ -39,10 +27,10 @@ pub stepped-spec : {M : Type 1} → statement M
 stepped-spec =
     tie.close
     (tie.spec
-    end-of-requires
-    step-end-requires
-    unit-place-requires
+    (λ c κs. search needs)
+    (λ c κs. search needs)
+    (λ c κs. search needs)
     returns
     add-no-more
-    no-more-requires
+    (λ c κs. search needs)
     returns-2)

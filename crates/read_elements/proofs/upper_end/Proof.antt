@@ -5,26 +5,14 @@ use borrow.Author.Needs.{needs}
 use Rattle.read_elements.proofs.upper_end.Statement.{statement}
 use Rattle.read_elements.proofs.upper_end.Tie as tie
 
-sep-kind-requires : tie.Need-sep-kind-requires
-sep-kind-requires c κs = search needs
-
-begins-requires : tie.Need-begins-requires
-begins-requires c κs = search needs
-
 returns : tie.Need-returns
 returns c = search (needs, up-end)
-
-range-kind-requires : tie.Need-range-kind-requires
-range-kind-requires c κs = search needs
 
 ranged-requires : tie.Need-ranged-requires
 ranged-requires c κs = rw (← c .before .before .before .before .sep-kind .ensures) (sym (c .before .before .before .begins .ensures) ∙ c .before .before .if1 .left)
 
 returns-2 : tie.Need-returns-2
 returns-2 c = search (needs, up-range)
-
-sep-place-requires : tie.Need-sep-place-requires
-sep-place-requires c κs = search needs
 
 returns-3 : tie.Need-returns-3
 returns-3 c = search (needs, up-bad)
@@ -33,11 +21,11 @@ pub upper-end-spec : {M : Type 1} → statement M
 upper-end-spec =
     tie.close
     (tie.spec
-    sep-kind-requires
-    begins-requires
+    (λ c κs. search needs)
+    (λ c κs. search needs)
     returns
-    range-kind-requires
+    (λ c κs. search needs)
     ranged-requires
     returns-2
-    sep-place-requires
+    (λ c κs. search needs)
     returns-3)

@@ -19,9 +19,6 @@ abbrev μ-loop : tie.MeasureT-loop
 loop-holds : tie.Need-loop-holds Inv-loop μ-loop
 loop-holds c = λ b cs. refl
 
-sep-kind-requires : tie.Need-sep-kind-requires Inv-loop μ-loop
-sep-kind-requires c κs = search needs
-
 add-k : tie.Need-add-k Inv-loop μ-loop
 add-k c = omega (arith, dash-room (now (c .before .before .before .before .args .toks)) (c .before .before .loop .k) (c .before .sep-kind .ensures) (c .if1 .taken))
 
@@ -37,4 +34,4 @@ returns c = search (needs, dashes-end)
 pub arg-end-spec : {M : Type 1} → statement M
 arg-end-spec =
     tie.close
-    (tie.spec Inv-loop μ-loop loop-holds sep-kind-requires add-k loop-less loop-again returns)
+    (tie.spec Inv-loop μ-loop loop-holds (λ c κs. search needs) add-k loop-less loop-again returns)

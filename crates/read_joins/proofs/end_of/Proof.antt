@@ -9,27 +9,6 @@ use borrow.Author.Needs.{needs}
 use Rattle.read_joins.proofs.end_of.Statement.{statement}
 use Rattle.read_joins.proofs.end_of.Tie as tie
 
-count-requires : tie.Need-count-requires
-count-requires c κs = search needs
-
-add-t : tie.Need-add-t
-add-t c = search needs
-
-mul-t : tie.Need-mul-t
-mul-t c = search needs
-
-shared-slice-read-t : tie.Need-shared-slice-read-t
-shared-slice-read-t c = search needs
-
-kind-requires : tie.Need-kind-requires
-kind-requires c κs = search needs
-
-start-requires : tie.Need-start-requires
-start-requires c κs = search needs
-
-end-requires : tie.Need-end-requires
-end-requires c κs = search needs
-
 -- what is cut out is the unit's content
 cut : (c : tie.After-end) → let d = c .before .before .before .before .before .before .before .before .before .args in
     Cuts (now (d .contents)) (getD (now (d .toks)) (d .n + d .n) 0) (c .before .start .result) (c .end .result)
@@ -46,12 +25,6 @@ part-read-word-start c = omega (arith, cut c)
 part-read-word-end : tie.Need-part-read-word-end
 part-read-word-end c = omega (arith, cut c)
 
-read-word-requires : tie.Need-read-word-requires
-read-word-requires c κs = search needs
-
-unit-end-requires : tie.Need-unit-end-requires
-unit-end-requires c κs = search needs
-
 returns : tie.Need-returns
 returns c = search (needs, end-at-word)
 
@@ -65,18 +38,18 @@ pub end-of-spec : {M : Type 1} → statement M
 end-of-spec =
     tie.close
     (tie.spec
-    count-requires
-    add-t
-    mul-t
-    shared-slice-read-t
-    kind-requires
-    start-requires
-    end-requires
+    (λ c κs. search needs)
+    (λ c. search needs)
+    (λ c. search needs)
+    (λ c. search needs)
+    (λ c κs. search needs)
+    (λ c κs. search needs)
+    (λ c κs. search needs)
     sub-read-word
     part-read-word-start
     part-read-word-end
-    read-word-requires
-    unit-end-requires
+    (λ c κs. search needs)
+    (λ c κs. search needs)
     returns
     returns-2
     returns-3)

@@ -4,23 +4,8 @@ use borrow.Author.Needs.{needs}
 use Rattle.read_joins.proofs.no_more.Statement.{statement}
 use Rattle.read_joins.proofs.no_more.Tie as tie
 
-sep-kind-requires : tie.Need-sep-kind-requires
-sep-kind-requires c κs = search needs
-
-begins-requires : tie.Need-begins-requires
-begins-requires c κs = search needs
-
-sub-t8 : tie.Need-sub-t8
-sub-t8 c = search needs
-
-div-t9 : tie.Need-div-t9
-div-t9 c = search needs
-
 returns : tie.Need-returns
 returns c = search (needs, no-more-end)
-
-sep-place-requires : tie.Need-sep-place-requires
-sep-place-requires c κs = search needs
 
 returns-2 : tie.Need-returns-2
 returns-2 c = search (needs, no-more-bad)
@@ -29,10 +14,10 @@ pub no-more-spec : {M : Type 1} → statement M
 no-more-spec =
     tie.close
     (tie.spec
-    sep-kind-requires
-    begins-requires
-    sub-t8
-    div-t9
+    (λ c κs. search needs)
+    (λ c κs. search needs)
+    (λ c. search needs)
+    (λ c. search needs)
     returns
-    sep-place-requires
+    (λ c κs. search needs)
     returns-2)

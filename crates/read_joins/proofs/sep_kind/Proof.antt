@@ -9,27 +9,6 @@ returns : tie.Need-returns
 unfolding sepKind
 returns c = rw (c .if1 .taken)
 
-count-requires : tie.Need-count-requires
-count-requires c κs = search needs
-
-add-kind : tie.Need-add-kind
-add-kind c = search needs
-
-sub-kind : tie.Need-sub-kind
-sub-kind c = search needs
-
-mul-kind : tie.Need-mul-kind
-mul-kind c = search needs
-
-shared-slice-read-kind : tie.Need-shared-slice-read-kind
-shared-slice-read-kind c = search needs
-
-kind-requires : tie.Need-kind-requires
-kind-requires c κs = search needs
-
-join-kind-requires : tie.Need-join-kind-requires
-join-kind-requires c κs = search needs
-
 returns-2 : tie.Need-returns-2
 unfolding sepKind
 returns-2 c = let d = c .before .before .before .before in rw (ne-eqb _ _ (d .before .if1 .left), ← d .count .ensures, lt-ltb _ _ (c .before .before .before .if2 .taken), ← c .before .kind .ensures) (c .join-kind .ensures)
@@ -43,12 +22,12 @@ sep-kind-spec =
     tie.close
     (tie.spec
     returns
-    count-requires
-    add-kind
-    sub-kind
-    mul-kind
-    shared-slice-read-kind
-    kind-requires
-    join-kind-requires
+    (λ c κs. search needs)
+    (λ c. search needs)
+    (λ c. search needs)
+    (λ c. search needs)
+    (λ c. search needs)
+    (λ c κs. search needs)
+    (λ c κs. search needs)
     returns-2
     returns-3)

@@ -9,24 +9,6 @@ returns : tie.Need-returns
 unfolding sepPlace
 returns c = rw (c .if1 .taken)
 
-count-requires : tie.Need-count-requires
-count-requires c κs = search needs
-
-add-place : tie.Need-add-place
-add-place c = search needs
-
-sub-place : tie.Need-sub-place
-sub-place c = search needs
-
-mul-place : tie.Need-mul-place
-mul-place c = search needs
-
-shared-slice-read-place : tie.Need-shared-slice-read-place
-shared-slice-read-place c = search needs
-
-place-requires : tie.Need-place-requires
-place-requires c κs = search needs
-
 returns-2 : tie.Need-returns-2
 unfolding sepPlace
 returns-2 c = let d = c .before .before .before in rw (ne-eqb _ _ (d .before .if1 .left), ← d .count .ensures, lt-ltb _ _ (c .before .before .if2 .taken)) (c .place .ensures)
@@ -40,11 +22,11 @@ sep-place-spec =
     tie.close
     (tie.spec
     returns
-    count-requires
-    add-place
-    sub-place
-    mul-place
-    shared-slice-read-place
-    place-requires
+    (λ c κs. search needs)
+    (λ c. search needs)
+    (λ c. search needs)
+    (λ c. search needs)
+    (λ c. search needs)
+    (λ c κs. search needs)
     returns-2
     returns-3)

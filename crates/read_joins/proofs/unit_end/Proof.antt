@@ -30,12 +30,6 @@ other Symbolic k = refl
 other Unreadable k = refl
 other TooBig k = refl
 
-enum-known-u : tie.Need-enum-known-u
-enum-known-u c = search needs
-
-size-requires : tie.Need-size-requires
-size-requires c κs = search needs
-
 returns : tie.Need-returns
 returns c = rw (c .before .before .before .u .given .1, eq-eqb _ _ (c .before .if1 .taken), c .size .ensures)
 
@@ -46,4 +40,4 @@ returns-3 : tie.Need-returns-3
 returns-3 c = other (c .before .args .u) (c .match .keys2)
 
 pub unit-end-spec : {M : Type 1} → statement M
-unit-end-spec = tie.close (tie.spec enum-known-u size-requires returns returns-2 returns-3)
+unit-end-spec = tie.close (tie.spec (λ c. search needs) (λ c κs. search needs) returns returns-2 returns-3)

@@ -5,21 +5,6 @@ use borrow.Author.Needs.{needs}
 use Rattle.read_joins.proofs.unit_place.Statement.{statement}
 use Rattle.read_joins.proofs.unit_place.Tie as tie
 
-count-requires : tie.Need-count-requires
-count-requires c κs = search needs
-
-add-place : tie.Need-add-place
-add-place c = search needs
-
-mul-place : tie.Need-mul-place
-mul-place c = search needs
-
-shared-slice-read-place : tie.Need-shared-slice-read-place
-shared-slice-read-place c = search needs
-
-place-requires : tie.Need-place-requires
-place-requires c κs = search needs
-
 returns : tie.Need-returns
 unfolding unitPlace
 returns c = rw (← c .before .before .before .count .ensures, lt-ltb _ _ (c .before .before .if1 .taken)) (c .place .ensures)
@@ -32,10 +17,10 @@ pub unit-place-spec : {M : Type 1} → statement M
 unit-place-spec =
     tie.close
     (tie.spec
-    count-requires
-    add-place
-    mul-place
-    shared-slice-read-place
-    place-requires
+    (λ c κs. search needs)
+    (λ c. search needs)
+    (λ c. search needs)
+    (λ c. search needs)
+    (λ c κs. search needs)
     returns
     returns-2)

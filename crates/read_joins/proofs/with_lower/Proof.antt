@@ -4,14 +4,8 @@ use borrow.Author.Needs.{needs}
 use Rattle.read_joins.proofs.with_lower.Statement.{statement}
 use Rattle.read_joins.proofs.with_lower.Tie as tie
 
-enum-known-upper : tie.Need-enum-known-upper
-enum-known-upper c = search needs
-
 returns : tie.Need-returns
 returns c = rw (c .before .before .upper .given .1, eq-eqb _ _ (c .if1 .taken))
-
-enum-told : tie.Need-enum-told
-enum-told c = search needs
 
 returns-2 : tie.Need-returns-2
 returns-2 c = rw (c .before .before .upper .given .1, ne-eqb _ _ (c .if1 .left))
@@ -20,4 +14,4 @@ returns-3 : tie.Need-returns-3
 returns-3 c = rw (c .enum-told .given .1)
 
 pub with-lower-spec : {M : Type 1} → statement M
-with-lower-spec = tie.close (tie.spec enum-known-upper returns enum-told returns-2 returns-3)
+with-lower-spec = tie.close (tie.spec (λ c. search needs) returns (λ c. search needs) returns-2 returns-3)

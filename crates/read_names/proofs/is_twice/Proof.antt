@@ -7,12 +7,6 @@ use borrow.Author.Needs.{needs}
 use Rattle.read_names.proofs.is_twice.Statement.{statement}
 use Rattle.read_names.proofs.is_twice.Tie as tie
 
-has-requires : tie.Need-has-requires
-has-requires c κs = search needs
-
-stands-requires : tie.Need-stands-requires
-stands-requires c κs = search needs
-
 returns : tie.Need-returns
 returns c = let a = c .before .before .before .before .before .before .args in λ ns v k. tell-looked v (wordsIn true (now (a .contents)) (now (a .name))) (c .stands .ensures)
 
@@ -20,4 +14,4 @@ returns-2 : tie.Need-returns-2
 returns-2 c = let a = c .before .before .before .before .before .args in λ ns v k. tell-new v (wordsIn true (now (a .contents)) (now (a .name))) k (c .before .has .ensures) (c .if1 .left)
 
 pub is-twice-spec : {M : Type 1} → statement M
-is-twice-spec = tie.close (tie.spec has-requires stands-requires returns returns-2)
+is-twice-spec = tie.close (tie.spec (λ c κs. search needs) (λ c κs. search needs) returns returns-2)

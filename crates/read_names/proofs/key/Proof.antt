@@ -16,24 +16,6 @@ Inv-loop name contents i₀ key₀ i key = nameKey 0 (wordsIn true contents name
 abbrev μ-loop : tie.MeasureT-loop
 μ-loop name contents i₀ key₀ i key = length name - i
 
-loop-holds : tie.Need-loop-holds Inv-loop μ-loop
-loop-holds c = search needs
-
-mul-piece-key : tie.Need-mul-piece-key Inv-loop μ-loop
-mul-piece-key c = search needs
-
-shared-slice-read-piece-key : tie.Need-shared-slice-read-piece-key Inv-loop μ-loop
-shared-slice-read-piece-key c = search needs
-
-piece-key-requires : tie.Need-piece-key-requires Inv-loop μ-loop
-piece-key-requires c κs = search needs
-
-add-i : tie.Need-add-i Inv-loop μ-loop
-add-i c = search needs
-
-loop-less : tie.Need-loop-less Inv-loop μ-loop
-loop-less c = search needs
-
 loop-again : tie.Need-loop-again Inv-loop μ-loop
 loop-again c = search (needs, key-more)
 
@@ -46,11 +28,11 @@ key-spec =
     (tie.spec
     Inv-loop
     μ-loop
-    loop-holds
-    mul-piece-key
-    shared-slice-read-piece-key
-    piece-key-requires
-    add-i
-    loop-less
+    (λ c. search needs)
+    (λ c. search needs)
+    (λ c. search needs)
+    (λ c κs. search needs)
+    (λ c. search needs)
+    (λ c. search needs)
     loop-again
     returns)

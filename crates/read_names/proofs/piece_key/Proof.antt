@@ -12,12 +12,6 @@ use Rattle.read_names.proofs.piece_key.Tie as tie
 cut : (c : tie.After-end) → let a = c .before .before .before .args in Cuts (now (a .contents)) (a .t) (c .before .start .result) (c .end .result)
 cut c = let a = c .before .before .before .args in cuts (now (a .contents)) (a .t) (c .before .start .ensures) (c .end .ensures)
 
-start-requires : tie.Need-start-requires
-start-requires c κs = search needs
-
-end-requires : tie.Need-end-requires
-end-requires c κs = search needs
-
 sub-key : tie.Need-sub-key
 sub-key c = omega (arith, cut c)
 
@@ -27,13 +21,10 @@ part-key-start c = omega (arith, cut c)
 part-key-end : tie.Need-part-key-end
 part-key-end c = omega (arith, cut c)
 
-key-requires : tie.Need-key-requires
-key-requires c κs = search needs
-
 returns : tie.Need-returns
 returns c = c .key .ensures ∙ ap (keyOf (c .before .before .before .before .before .args .seed)) (cut (c .before .before) .is)
 
 pub piece-key-spec : {M : Type 1} → statement M
 piece-key-spec =
     tie.close
-    (tie.spec start-requires end-requires sub-key part-key-start part-key-end key-requires returns)
+    (tie.spec (λ c κs. search needs) (λ c κs. search needs) sub-key part-key-start part-key-end (λ c κs. search needs) returns)

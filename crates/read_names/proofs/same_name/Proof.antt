@@ -12,32 +12,8 @@ Inv-loop a b contents i₀ i = Alike contents a b i
 abbrev μ-loop : tie.MeasureT-loop
 μ-loop a b contents i₀ i = length a - i
 
-loop-holds : tie.Need-loop-holds Inv-loop μ-loop
-loop-holds c = search needs
-
 returns : tie.Need-returns Inv-loop μ-loop
 returns c = search (needs, alike-longer)
-
-mul-same-piece : tie.Need-mul-same-piece Inv-loop μ-loop
-mul-same-piece c = search needs
-
-shared-slice-read-same-piece : tie.Need-shared-slice-read-same-piece Inv-loop μ-loop
-shared-slice-read-same-piece c = search needs
-
-mul-same-piece-2 : tie.Need-mul-same-piece-2 Inv-loop μ-loop
-mul-same-piece-2 c = search needs
-
-shared-slice-read-same-piece-2 : tie.Need-shared-slice-read-same-piece-2 Inv-loop μ-loop
-shared-slice-read-same-piece-2 c = search needs
-
-same-piece-requires : tie.Need-same-piece-requires Inv-loop μ-loop
-same-piece-requires c κs = search needs
-
-add-i : tie.Need-add-i Inv-loop μ-loop
-add-i c = search needs
-
-loop-less : tie.Need-loop-less Inv-loop μ-loop
-loop-less c = search needs
 
 loop-again : tie.Need-loop-again Inv-loop μ-loop
 loop-again c = search (needs, alike-more)
@@ -54,15 +30,15 @@ same-name-spec =
     (tie.spec
     Inv-loop
     μ-loop
-    loop-holds
+    (λ c. search needs)
     returns
-    mul-same-piece
-    shared-slice-read-same-piece
-    mul-same-piece-2
-    shared-slice-read-same-piece-2
-    same-piece-requires
-    add-i
-    loop-less
+    (λ c. search needs)
+    (λ c. search needs)
+    (λ c. search needs)
+    (λ c. search needs)
+    (λ c κs. search needs)
+    (λ c. search needs)
+    (λ c. search needs)
     loop-again
     returns-2
     returns-3)

@@ -15,18 +15,6 @@ cut c = let a = c .before .before .before .args in cuts (now (a .contents)) (a .
 cut2 : (c : tie.After-end2) → let a = c .before .before .before .before .before .args in Cuts (now (a .contents)) (a .u) (c .before .start2 .result) (c .end2 .result)
 cut2 c = let a = c .before .before .before .before .before .args in cuts (now (a .contents)) (a .u) (c .before .start2 .ensures) (c .end2 .ensures)
 
-start-requires : tie.Need-start-requires
-start-requires c κs = search needs
-
-end-requires : tie.Need-end-requires
-end-requires c κs = search needs
-
-start-requires-2 : tie.Need-start-requires-2
-start-requires-2 c κs = search needs
-
-end-requires-2 : tie.Need-end-requires-2
-end-requires-2 c κs = search needs
-
 sub-same : tie.Need-sub-same
 sub-same c = omega (arith, cut (c .before .before))
 
@@ -45,9 +33,6 @@ part-same-start-2 c = omega (arith, cut2 (c .before))
 part-same-end-2 : tie.Need-part-same-end-2
 part-same-end-2 c = omega (arith, cut2 (c .before))
 
-same-requires : tie.Need-same-requires
-same-requires c κs = search needs
-
 returns : tie.Need-returns
 returns c = c .same .ensures ∙ ap₂ eqL (cut (c .before .before .before .before .before) .is) (cut2 (c .before .before .before) .is)
 
@@ -55,15 +40,15 @@ pub same-piece-spec : {M : Type 1} → statement M
 same-piece-spec =
     tie.close
     (tie.spec
-    start-requires
-    end-requires
-    start-requires-2
-    end-requires-2
+    (λ c κs. search needs)
+    (λ c κs. search needs)
+    (λ c κs. search needs)
+    (λ c κs. search needs)
     sub-same
     part-same-start
     part-same-end
     sub-same-2
     part-same-start-2
     part-same-end-2
-    same-requires
+    (λ c κs. search needs)
     returns)

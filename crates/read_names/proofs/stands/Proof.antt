@@ -27,38 +27,17 @@ loop-holds c = let a = c .before .before .before .args in λ ns m. walk-start (n
 inside : (c : tie.After-find Inv-loop μ-loop) → c .find .result ≤ length (now (c .before .before .before .before .before .before .args .before))
 inside c = found-inside (now (c .before .before .before .before .before .before .args .before)) (c .before .before .loop .i) 8 (c .find .ensures) (omega (arith, c .before .loop-test .taken))
 
-find-requires : tie.Need-find-requires Inv-loop μ-loop
-find-requires c κs = search needs
-
-mul-same-name : tie.Need-mul-same-name Inv-loop μ-loop
-mul-same-name c = search needs
-
-sub-same-name : tie.Need-sub-same-name Inv-loop μ-loop
-sub-same-name c = search needs
-
-part-same-name-start : tie.Need-part-same-name-start Inv-loop μ-loop
-part-same-name-start c = search needs
-
 part-same-name-end : tie.Need-part-same-name-end Inv-loop μ-loop
 part-same-name-end c = inside c
 
-same-name-requires : tie.Need-same-name-requires Inv-loop μ-loop
-same-name-requires c κs = search needs
-
 returns : tie.Need-returns Inv-loop μ-loop
 returns c = λ ns m. walk-found (c .before .before .before .before .before .loop .inv ns m) (c .before .before .before .before .loop-test .taken) (c .before .before .before .find .ensures) (c .before .same-name .ensures) (c .if1 .taken)
-
-find-requires-2 : tie.Need-find-requires-2 Inv-loop μ-loop
-find-requires-2 c κs = search needs
 
 add-i : tie.Need-add-i Inv-loop μ-loop
 add-i c =
     let t = now (c .before .before .before .before .before .before .before .before .before .before .args .before) in
     let i = c .before .before .before .before .before .before .loop .i in
     omega (arith, found-inside t i 6 (c .find2 .ensures) (omega (arith, c .before .before .before .before .before .loop-test .taken)), c .before .before .before .before .before .before .before .before .before .before .good .0 .1)
-
-loop-less : tie.Need-loop-less Inv-loop μ-loop
-loop-less c = search needs
 
 loop-again : tie.Need-loop-again Inv-loop μ-loop
 loop-again c =
@@ -76,15 +55,15 @@ stands-spec =
     Inv-loop
     μ-loop
     loop-holds
-    find-requires
-    mul-same-name
-    sub-same-name
-    part-same-name-start
+    (λ c κs. search needs)
+    (λ c. search needs)
+    (λ c. search needs)
+    (λ c. search needs)
     part-same-name-end
-    same-name-requires
+    (λ c κs. search needs)
     returns
-    find-requires-2
+    (λ c κs. search needs)
     add-i
-    loop-less
+    (λ c. search needs)
     loop-again
     returns-2)

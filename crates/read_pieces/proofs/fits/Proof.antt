@@ -4,14 +4,8 @@ use borrow.Author.Needs.{needs}
 use Rattle.read_pieces.proofs.fits.Statement.{statement}
 use Rattle.read_pieces.proofs.fits.Tie as tie
 
-is-identifier-requires : tie.Need-is-identifier-requires
-is-identifier-requires c κs = search needs
-
 returns : tie.Need-returns
 returns c = search (needs, test-ident)
-
-is-index-requires : tie.Need-is-index-requires
-is-index-requires c κs = search needs
 
 returns-2 : tie.Need-returns-2
 returns-2 c = search (needs, test-index)
@@ -21,4 +15,4 @@ returns-3 c = search (needs, test-none)
 
 pub fits-spec : {M : Type 1} → statement M
 fits-spec =
-    tie.close (tie.spec is-identifier-requires returns is-index-requires returns-2 returns-3)
+    tie.close (tie.spec (λ c κs. search needs) returns (λ c κs. search needs) returns-2 returns-3)

@@ -7,11 +7,8 @@ use Rattle.read_pieces.proofs.is_dash.Tie as tie
 returns : tie.Need-returns
 returns c = search (needs, dash-none)
 
-kind-requires : tie.Need-kind-requires
-kind-requires c κs = search needs
-
 returns-2 : tie.Need-returns-2
 returns-2 c = search (needs, dash-some)
 
 pub is-dash-spec : {M : Type 1} → statement M
-is-dash-spec = tie.close (tie.spec returns kind-requires returns-2)
+is-dash-spec = tie.close (tie.spec returns (λ c κs. search needs) returns-2)

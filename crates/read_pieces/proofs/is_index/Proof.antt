@@ -7,11 +7,8 @@ use Rattle.read_pieces.proofs.is_index.Tie as tie
 returns : tie.Need-returns
 returns c = search (needs, index-none)
 
-all-decimal-requires : tie.Need-all-decimal-requires
-all-decimal-requires c κs = search needs
-
 returns-2 : tie.Need-returns-2
 returns-2 c = search (needs, index-some)
 
 pub is-index-spec : {M : Type 1} → statement M
-is-index-spec = tie.close (tie.spec returns all-decimal-requires returns-2)
+is-index-spec = tie.close (tie.spec returns (λ c κs. search needs) returns-2)

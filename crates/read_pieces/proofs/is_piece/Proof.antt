@@ -11,15 +11,6 @@ use Rattle.read_pieces.proofs.is_piece.Tie as tie
 cut : (c : tie.After-end) → let a = c .before .before .before .before .before .args in Cuts (now (a .contents)) (a .t) (c .before .start .result) (c .end .result)
 cut c = let a = c .before .before .before .before .before .args in cuts (now (a .contents)) (a .t) (c .before .start .ensures) (c .end .ensures)
 
-kind-requires : tie.Need-kind-requires
-kind-requires c κs = search needs
-
-start-requires : tie.Need-start-requires
-start-requires c κs = search needs
-
-end-requires : tie.Need-end-requires
-end-requires c κs = search needs
-
 sub-fits : tie.Need-sub-fits
 sub-fits c = omega (arith, cut c)
 
@@ -28,9 +19,6 @@ part-fits-start c = omega (arith, cut c)
 
 part-fits-end : tie.Need-part-fits-end
 part-fits-end c = omega (arith, cut c)
-
-fits-requires : tie.Need-fits-requires
-fits-requires c κs = search needs
 
 returns : tie.Need-returns
 returns c = search (needs, piece-word)
@@ -42,12 +30,12 @@ pub is-piece-spec : {M : Type 1} → statement M
 is-piece-spec =
     tie.close
     (tie.spec
-    kind-requires
-    start-requires
-    end-requires
+    (λ c κs. search needs)
+    (λ c κs. search needs)
+    (λ c κs. search needs)
     sub-fits
     part-fits-start
     part-fits-end
-    fits-requires
+    (λ c κs. search needs)
     returns
     returns-2)

@@ -7,11 +7,8 @@ use Rattle.read_place.proofs.position.Tie as tie
 returns : tie.Need-returns
 returns c = search (needs, position-none)
 
-value-requires : tie.Need-value-requires
-value-requires c κs = search needs
-
 returns-2 : tie.Need-returns-2
 returns-2 c = search (needs, position-some)
 
 pub position-spec : {M : Type 1} → statement M
-position-spec = tie.close (tie.spec returns value-requires returns-2)
+position-spec = tie.close (tie.spec returns (λ c κs. search needs) returns-2)

@@ -8,18 +8,6 @@ use Rattle.read_place.proofs.PlaceLaws.{HasRead, has-read, value-wrong,
 use Rattle.read_place.proofs.value.Statement.{statement}
 use Rattle.read_place.proofs.value.Tie as tie
 
-base-requires : tie.Need-base-requires
-base-requires c κs = search needs
-
-read-value-requires : tie.Need-read-value-requires
-read-value-requires c κs = search needs
-
-enum-known-no : tie.Need-enum-known-no
-enum-known-no c = search needs
-
-enum-known-count : tie.Need-enum-known-count
-enum-known-count c = search needs
-
 -- what the arm knows
 got : (c : tie.After-count) → let a = c .before .before .before .before .before .before .before .args in HasRead (now (a .toks)) (now (a .contents)) (baseIn (now (a .bases)) (a .n)) (a .end) (c .count .given .0 .1 .0)
 got c =
@@ -32,9 +20,6 @@ cast-t15 c = omega (arith, got (c .before))
 
 shared-slice-read-place : tie.Need-shared-slice-read-place
 shared-slice-read-place c = omega (arith, got (c .before .before))
-
-place-requires : tie.Need-place-requires
-place-requires c κs = search needs
 
 with-value-requires : tie.Need-with-value-requires
 with-value-requires c κs = let a = c .before .before .before .before .before .before .before .before .before .before .args in faultless (now (a .toks)) (now (a .contents)) (baseIn (now (a .bases)) (a .n)) (a .end) (c .before .before .before .count .given .0 .1 .0) (c .before .before .before .before .before .before .base .result) (got (c .before .before .before)) (c .before .before .before .before .before .before .base .ensures)
@@ -49,13 +34,13 @@ pub value-spec : {M : Type 1} → statement M
 value-spec =
     tie.close
     (tie.spec
-    base-requires
-    read-value-requires
-    enum-known-no
-    enum-known-count
+    (λ c κs. search needs)
+    (λ c κs. search needs)
+    (λ c. search needs)
+    (λ c. search needs)
     cast-t15
     shared-slice-read-place
-    place-requires
+    (λ c κs. search needs)
     with-value-requires
     returns
     returns-2)

@@ -4,27 +4,6 @@ use borrow.Author.Needs.{needs}
 use Rattle.read_value.proofs.grouped.Statement.{statement}
 use Rattle.read_value.proofs.grouped.Tie as tie
 
-readable-requires : tie.Need-readable-requires
-readable-requires c κs = search needs
-
-enum-known-no : tie.Need-enum-known-no
-enum-known-no c = search needs
-
-enum-told : tie.Need-enum-told
-enum-told c = search needs
-
-elements-requires : tie.Need-elements-requires
-elements-requires c κs = search needs
-
-shared-slice-read-place : tie.Need-shared-slice-read-place
-shared-slice-read-place c = search needs
-
-place-requires : tie.Need-place-requires
-place-requires c κs = search needs
-
-limit-requires : tie.Need-limit-requires
-limit-requires c κs = search needs
-
 returns : tie.Need-returns
 unfolding groupedAnswer
 returns c = rw (← c .before .before .before .readable .ensures, c .before .no .given .1)
@@ -39,12 +18,12 @@ pub grouped-spec : {M : Type 1} → statement M
 grouped-spec =
     tie.close
     (tie.spec
-    readable-requires
-    enum-known-no
-    enum-told
-    elements-requires
-    shared-slice-read-place
-    place-requires
-    limit-requires
+    (λ c κs. search needs)
+    (λ c. search needs)
+    (λ c. search needs)
+    (λ c κs. search needs)
+    (λ c. search needs)
+    (λ c κs. search needs)
+    (λ c κs. search needs)
     returns
     returns-2)

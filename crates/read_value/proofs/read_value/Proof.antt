@@ -6,15 +6,6 @@ use borrow.Author.Needs.{needs}
 use Rattle.read_value.proofs.read_value.Statement.{statement}
 use Rattle.read_value.proofs.read_value.Tie as tie
 
-alternates-requires : tie.Need-alternates-requires
-alternates-requires c κs = search needs
-
-enum-known-no : tie.Need-enum-known-no
-enum-known-no c = search needs
-
-enum-told : tie.Need-enum-told
-enum-told c = search needs
-
 grouped-requires : tie.Need-grouped-requires
 grouped-requires c κs =
     let a = c .before .before .before .before .before .args in
@@ -34,4 +25,4 @@ returns-2 c =
 pub read-value-spec : {M : Type 1} → statement M
 read-value-spec =
     tie.close
-    (tie.spec alternates-requires enum-known-no enum-told grouped-requires returns returns-2)
+    (tie.spec (λ c κs. search needs) (λ c. search needs) (λ c. search needs) grouped-requires returns returns-2)

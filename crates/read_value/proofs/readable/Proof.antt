@@ -18,32 +18,11 @@ abbrev μ-loop : tie.MeasureT-loop
 loop-holds : tie.Need-loop-holds Inv-loop μ-loop
 loop-holds c = refl
 
-mul-unit-verdict : tie.Need-mul-unit-verdict Inv-loop μ-loop
-mul-unit-verdict c = search needs
-
-shared-slice-read-unit-verdict : tie.Need-shared-slice-read-unit-verdict Inv-loop μ-loop
-shared-slice-read-unit-verdict c = search needs
-
-unit-verdict-requires : tie.Need-unit-verdict-requires Inv-loop μ-loop
-unit-verdict-requires c κs = search needs
-
-enum-known-no : tie.Need-enum-known-no Inv-loop μ-loop
-enum-known-no c = search needs
-
 returns : tie.Need-returns Inv-loop μ-loop
 returns c = let a = c .before .before .before .before .before .before .before .before .before .args in
     let v = c .before .no .given .0 in
     units-stop (a .base) (now (a .contents)) (now (a .toks)) (c .before .before .before .before .before .before .loop .i) (v .0) (v .1 .0) (c .before .before .before .before .before .before .loop .inv) (c .before .before .before .before .before .loop-test .taken)
     (c .before .before .before .unit-verdict .ensures) (c .before .no .given .1)
-
-enum-told : tie.Need-enum-told Inv-loop μ-loop
-enum-told c = search needs
-
-add-i : tie.Need-add-i Inv-loop μ-loop
-add-i c = search needs
-
-loop-less : tie.Need-loop-less Inv-loop μ-loop
-loop-less c = search needs
 
 loop-again : tie.Need-loop-again Inv-loop μ-loop
 loop-again c = let a = c .before .before .before .before .before .before .before .before .args in
@@ -60,13 +39,13 @@ readable-spec =
     Inv-loop
     μ-loop
     loop-holds
-    mul-unit-verdict
-    shared-slice-read-unit-verdict
-    unit-verdict-requires
-    enum-known-no
+    (λ c. search needs)
+    (λ c. search needs)
+    (λ c κs. search needs)
+    (λ c. search needs)
     returns
-    enum-told
-    add-i
-    loop-less
+    (λ c. search needs)
+    (λ c. search needs)
+    (λ c. search needs)
     loop-again
     returns-2)

@@ -7,15 +7,6 @@ use borrow.Author.Needs.{needs}
 use Rattle.read_value.proofs.unit_verdict.Statement.{statement}
 use Rattle.read_value.proofs.unit_verdict.Tie as tie
 
-kind-requires : tie.Need-kind-requires
-kind-requires c κs = search needs
-
-start-requires : tie.Need-start-requires
-start-requires c κs = search needs
-
-end-requires : tie.Need-end-requires
-end-requires c κs = search needs
-
 -- what is cut out is the token's content
 cut : (c : tie.After-end) → let a = c .before .before .before .before .before .args in Cuts (now (a .contents)) (a .t) (c .before .start .result) (c .end .result)
 cut c = let a = c .before .before .before .before .before .args in cuts (now (a .contents)) (a .t) (c .before .start .ensures) (c .end .ensures)
@@ -29,15 +20,6 @@ part-read-word-start c = omega (arith, cut c)
 part-read-word-end : tie.Need-part-read-word-end
 part-read-word-end c = omega (arith, cut c)
 
-read-word-requires : tie.Need-read-word-requires
-read-word-requires c κs = search needs
-
-place-requires : tie.Need-place-requires
-place-requires c κs = search needs
-
-word-verdict-requires : tie.Need-word-verdict-requires
-word-verdict-requires c κs = search needs
-
 returns : tie.Need-returns
 returns c = search (needs, word-is)
 
@@ -48,14 +30,14 @@ pub unit-verdict-spec : {M : Type 1} → statement M
 unit-verdict-spec =
     tie.close
     (tie.spec
-    kind-requires
-    start-requires
-    end-requires
+    (λ c κs. search needs)
+    (λ c κs. search needs)
+    (λ c κs. search needs)
     sub-read-word
     part-read-word-start
     part-read-word-end
-    read-word-requires
-    place-requires
-    word-verdict-requires
+    (λ c κs. search needs)
+    (λ c κs. search needs)
+    (λ c κs. search needs)
     returns
     returns-2)

@@ -29,12 +29,6 @@ other p Symbolic k = refl
 other p Unreadable k = absurd (none 4 (omega arith) k)
 other p TooBig k = absurd (none 5 (omega arith) k)
 
-enum-told : tie.Need-enum-told
-enum-told c = search needs
-
-enum-told-2 : tie.Need-enum-told-2
-enum-told-2 c = search needs
-
 returns : tie.Need-returns
 returns c = rw (c .enum-told .given .1)
 
@@ -45,4 +39,4 @@ returns-3 : tie.Need-returns-3
 returns-3 c = other (c .before .args .place) (c .before .args .u) (c .match .keys3)
 
 pub word-verdict-spec : {M : Type 1} → statement M
-word-verdict-spec = tie.close (tie.spec enum-told enum-told-2 returns returns-2 returns-3)
+word-verdict-spec = tie.close (tie.spec (λ c. search needs) (λ c. search needs) returns returns-2 returns-3)

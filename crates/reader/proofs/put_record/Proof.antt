@@ -6,18 +6,6 @@ use native.Mathlib.Omega.{arith}
 use Rattle.reader.proofs.put_record.Statement.{statement}
 use Rattle.reader.proofs.put_record.Tie as tie
 
-command-requires : tie.Need-command-requires
-command-requires c κs = search needs
-
-enum-known-no : tie.Need-enum-known-no
-enum-known-no c = search needs
-
-enum-known-bytes : tie.Need-enum-known-bytes
-enum-known-bytes c = search needs
-
-cast-if1 : tie.Need-cast-if1
-cast-if1 c = search needs
-
 returns : tie.Need-returns
 returns c = tokens-short (now (c .before .before .before .before .before .before .before .before .before .args .toks)) (now (c .before .before .before .before .before .before .before .before .before .args .contents)) (now (c .before .before .before .before .before .before .before .before .before .args .bases)) (c .before .before .before .before .before .before .before .before .before .args .len) (now (c .before .before .before .before .before .before .before .before .before .args .out)) _ (tokens-right (now (c .before .before .before .before .before .before .before .before .before .args .toks)) (now (c .before .before .before .before .before .before .before .before .before .args .contents)) (now (c .before .before .before .before .before .before .before .before .before .args .bases)) (c .before .before .before .before .before .before .before .before .before .args .len) (now (c .before .before .before .before .before .before .before .before .before .args .out)) _ (c .before .before .before .before .before .before .before .before .before .pre) (c .before .before .before .before .command .ensures) (c .before .before .bytes .given .1)) (c .if1 .taken)
 
@@ -33,9 +21,6 @@ cast-t16 c =
 returns-2 : tie.Need-returns-2
 returns-2 c = tokens-refused (now (c .before .before .before .before .before .before .before .before .args .toks)) (now (c .before .before .before .before .before .before .before .before .args .contents)) (now (c .before .before .before .before .before .before .before .before .args .bases)) (c .before .before .before .before .before .before .before .before .args .len) (now (c .before .before .before .before .before .before .before .before .args .out)) _ _ (c .before .before .before .command .ensures) (c .before .no .given .1)
 
-same-length : tie.Need-same-length
-same-length c = search needs
-
 returns-3 : tie.Need-returns-3
 returns-3 c = tokens-done (now (c .before .before .before .before .before .before .before .before .before .before .before .before .before .args .toks)) (now (c .before .before .before .before .before .before .before .before .before .before .before .before .before .args .contents)) (now (c .before .before .before .before .before .before .before .before .before .before .before .before .before .args .bases)) (c .before .before .before .before .before .before .before .before .before .before .before .before .before .args .len) (now (c .before .before .before .before .before .before .before .before .before .before .before .before .before .args .out)) _ (tokens-right (now (c .before .before .before .before .before .before .before .before .before .before .before .before .before .args .toks)) (now (c .before .before .before .before .before .before .before .before .before .before .before .before .before .args .contents)) (now (c .before .before .before .before .before .before .before .before .before .before .before .before .before .args .bases)) (c .before .before .before .before .before .before .before .before .before .before .before .before .before .args .len) (now (c .before .before .before .before .before .before .before .before .before .before .before .before .before .args .out)) _ (c .before .before .before .before .before .before .before .before .before .before .before .before .before .pre) (c .before .before .before .before .before .before .before .before .command .ensures) (c .before .before .before .before .before .before .bytes .given .1)) (c .before .before .before .before .if1 .left) (c .before .before .put-command .ensures)
 
@@ -43,13 +28,13 @@ pub put-record-spec : {M : Type 1} → statement M
 put-record-spec =
     tie.close
     (tie.spec
-    command-requires
-    enum-known-no
-    enum-known-bytes
-    cast-if1
+    (λ c κs. search needs)
+    (λ c. search needs)
+    (λ c. search needs)
+    (λ c. search needs)
     returns
     put-command-requires
     cast-t16
     returns-2
-    same-length
+    (λ c. search needs)
     returns-3)

@@ -18,31 +18,13 @@ read-short-requires : tie.Need-read-short-requires
 unfolding table
 read-short-requires c κs = (refl, omega (arith, c .before .before .if2 .taken))
 
-same-length : tie.Need-same-length
-same-length c = search needs
-
-returns-2 : tie.Need-returns-2
-returns-2 c = search needs
-
 read-middle-requires : tie.Need-read-middle-requires
 unfolding table
 read-middle-requires c κs = (refl, omega (arith, c .before .before .if3 .taken))
 
-same-length-2 : tie.Need-same-length-2
-same-length-2 c = search needs
-
-returns-3 : tie.Need-returns-3
-returns-3 c = search needs
-
 read-long-requires : tie.Need-read-long-requires
 unfolding table
 read-long-requires c κs = (refl, omega (arith, c .before .before .before .before .if1 .left))
-
-same-length-3 : tie.Need-same-length-3
-same-length-3 c = search needs
-
-returns-4 : tie.Need-returns-4
-returns-4 c = search needs
 
 pub read-text-spec : {M : Type 1} → statement M
 read-text-spec =
@@ -51,11 +33,11 @@ read-text-spec =
     cast-t7
     returns
     read-short-requires
-    same-length
-    returns-2
+    (λ c. search needs)
+    (λ c. search needs)
     read-middle-requires
-    same-length-2
-    returns-3
+    (λ c. search needs)
+    (λ c. search needs)
     read-long-requires
-    same-length-3
-    returns-4)
+    (λ c. search needs)
+    (λ c. search needs))

@@ -6,20 +6,11 @@ use denote.Ref.{now}
 use Rattle.record_walk.proofs.after.Statement.{statement}
 use Rattle.record_walk.proofs.after.Tie as tie
 
-add-field-end : tie.Need-add-field-end
-add-field-end c = search needs
-
 shared-slice-read-field-end : tie.Need-shared-slice-read-field-end
 shared-slice-read-field-end c = omega (arith, whole-after (c .before .before .before .pre) .inside, after-on (now (c .before .before .before .args .rec)) (c .before .before .before .args .at) (c .before .if1 .taken))
 
-add-field-end-2 : tie.Need-add-field-end-2
-add-field-end-2 c = search needs
-
 shared-slice-read-field-end-2 : tie.Need-shared-slice-read-field-end-2
 shared-slice-read-field-end-2 c = omega (arith, whole-after (c .before .before .before .before .pre) .inside, after-on (now (c .before .before .before .before .args .rec)) (c .before .before .before .before .args .at) (c .before .before .if1 .taken))
-
-field-end-requires : tie.Need-field-end-requires
-field-end-requires c κs = search needs
 
 add-result : tie.Need-add-result
 add-result c = omega (arith, after-some (now (c .before .before .before .before .before .args .rec)) (c .before .before .before .before .before .args .at) (c .field-end .ensures) (c .before .before .before .if1 .taken), whole-after (c .before .before .before .before .before .pre) .inside)
@@ -34,11 +25,11 @@ pub after-spec : {M : Type 1} → statement M
 after-spec =
     tie.close
     (tie.spec
-    add-field-end
+    (λ c. search needs)
     shared-slice-read-field-end
-    add-field-end-2
+    (λ c. search needs)
     shared-slice-read-field-end-2
-    field-end-requires
+    (λ c κs. search needs)
     add-result
     returns
     returns-2)

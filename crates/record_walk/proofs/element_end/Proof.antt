@@ -5,9 +5,6 @@ use denote.Ref.{now}
 use Rattle.record_walk.proofs.element_end.Statement.{statement}
 use Rattle.record_walk.proofs.element_end.Tie as tie
 
-after-requires : tie.Need-after-requires
-after-requires c κs = search needs
-
 run-end-requires : tie.Need-run-end-requires
 run-end-requires c κs = rw (c .after .ensures) (whole-after (c .before .before .pre))
 
@@ -15,4 +12,4 @@ returns : tie.Need-returns
 returns c = element-to (now (c .before .before .before .args .rec)) (c .before .before .before .args .at) (rw (c .before .after .ensures) at (c .run-end .ensures))
 
 pub element-end-spec : {M : Type 1} → statement M
-element-end-spec = tie.close (tie.spec after-requires run-end-requires returns)
+element-end-spec = tie.close (tie.spec (λ c κs. search needs) run-end-requires returns)

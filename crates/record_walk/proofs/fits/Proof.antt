@@ -6,21 +6,6 @@ use lib.ListN.{List·getD-eq-default}
 use Rattle.record_walk.proofs.fits.Statement.{statement}
 use Rattle.record_walk.proofs.fits.Tie as tie
 
-is-word-length-requires : tie.Need-is-word-length-requires
-is-word-length-requires c κs = search needs
-
-is-word-length-requires-2 : tie.Need-is-word-length-requires-2
-is-word-length-requires-2 c κs = search needs
-
-is-word-length-requires-3 : tie.Need-is-word-length-requires-3
-is-word-length-requires-3 c κs = search needs
-
-is-word-length-requires-4 : tie.Need-is-word-length-requires-4
-is-word-length-requires-4 c κs = search needs
-
-is-word-length-requires-5 : tie.Need-is-word-length-requires-5
-is-word-length-requires-5 c κs = search needs
-
 returns : tie.Need-returns
 unfolding fits
 returns c = rw (c .before .match .keys1) (c .is-word-length .ensures)
@@ -77,11 +62,11 @@ pub fits-spec : {M : Type 1} → statement M
 fits-spec =
     tie.close
     (tie.spec
-    is-word-length-requires
-    is-word-length-requires-2
-    is-word-length-requires-3
-    is-word-length-requires-4
-    is-word-length-requires-5
+    (λ c κs. search needs)
+    (λ c κs. search needs)
+    (λ c κs. search needs)
+    (λ c κs. search needs)
+    (λ c κs. search needs)
     returns
     returns-2
     returns-3

@@ -9,14 +9,8 @@ use Rattle.record_walk.proofs.WalkLaws.{tag-there}
 use Rattle.record_walk.proofs.head_tag.Statement.{statement}
 use Rattle.record_walk.proofs.head_tag.Tie as tie
 
-add-if1 : tie.Need-add-if1
-add-if1 c = search needs
-
 returns : tie.Need-returns
 returns c = let a = c .before .args in sym (head-none (drop (a .at) (now (a .rec))) (omega (arith, c .if1 .taken, length-drop (a .at) (now (a .rec)))))
-
-shared-slice-read-result : tie.Need-shared-slice-read-result
-shared-slice-read-result c = search needs
 
 returns-2 : tie.Need-returns-2
 returns-2 c =
@@ -24,4 +18,4 @@ returns-2 c =
     sym (head-some (drop (a .at) (now (a .rec))) (omega (arith, c .before .if1 .left, length-drop (a .at) (now (a .rec)))) ∙ tag-there (now (a .rec)) (a .at))
 
 pub head-tag-spec : {M : Type 1} → statement M
-head-tag-spec = tie.close (tie.spec add-if1 returns shared-slice-read-result returns-2)
+head-tag-spec = tie.close (tie.spec (λ c. search needs) returns (λ c. search needs) returns-2)

@@ -19,12 +19,6 @@ abbrev μ-loop : tie.MeasureT-loop
 loop-holds : tie.Need-loop-holds Inv-loop μ-loop
 loop-holds c = (c .before .pre, λ r p. p)
 
-shared-slice-read-is-between : tie.Need-shared-slice-read-is-between Inv-loop μ-loop
-shared-slice-read-is-between c = search needs
-
-is-between-requires : tie.Need-is-between-requires Inv-loop μ-loop
-is-between-requires c κs = search needs
-
 after-requires : tie.Need-after-requires Inv-loop μ-loop
 after-requires c κs = c .before .before .before .before .loop .inv .0
 
@@ -47,8 +41,8 @@ run-end-spec =
     Inv-loop
     μ-loop
     loop-holds
-    shared-slice-read-is-between
-    is-between-requires
+    (λ c. search needs)
+    (λ c κs. search needs)
     after-requires
     loop-less
     loop-again

@@ -7,9 +7,6 @@ use lib.Seq.{getD-drop}
 use Rattle.record_walk.proofs.tag_at.Statement.{statement}
 use Rattle.record_walk.proofs.tag_at.Tie as tie
 
-shared-slice-read-result : tie.Need-shared-slice-read-result
-shared-slice-read-result c = search needs
-
 returns : tie.Need-returns
 returns c = rw (getD-drop, add-zero)
 
@@ -17,4 +14,4 @@ returns-2 : tie.Need-returns-2
 returns-2 c = rw (drop-of-length-le (now (c .before .args .rec)) (c .if1 .left))
 
 pub tag-at-spec : {M : Type 1} → statement M
-tag-at-spec = tie.close (tie.spec shared-slice-read-result returns returns-2)
+tag-at-spec = tie.close (tie.spec (λ c. search needs) returns returns-2)

@@ -19,38 +19,8 @@ abbrev μ-loop : tie.MeasureT-loop
 loop-holds : tie.Need-loop-holds Inv-loop μ-loop
 loop-holds c = gap-none _ _
 
-shared-slice-read-class : tie.Need-shared-slice-read-class Inv-loop μ-loop
-shared-slice-read-class c = search needs
-
-class-requires : tie.Need-class-requires Inv-loop μ-loop
-class-requires c κs = search needs
-
-add-i : tie.Need-add-i Inv-loop μ-loop
-add-i c = search needs
-
-loop-less : tie.Need-loop-less Inv-loop μ-loop
-loop-less c = search needs
-
 loop-again : tie.Need-loop-again Inv-loop μ-loop
 loop-again c = gap-skip (c .before .before .before .before .loop .inv) (c .before .before .before .loop-test .taken) (c .before .class .ensures) (c .if1 .taken)
-
-add-byte : tie.Need-add-byte Inv-loop μ-loop
-add-byte c = search needs
-
-byte-requires : tie.Need-byte-requires Inv-loop μ-loop
-byte-requires c κs = search needs
-
-add-comment : tie.Need-add-comment Inv-loop μ-loop
-add-comment c = search needs
-
-comment-requires : tie.Need-comment-requires Inv-loop μ-loop
-comment-requires c κs = search needs
-
-enum-known-e : tie.Need-enum-known-e Inv-loop μ-loop
-enum-known-e c = search needs
-
-enum-told : tie.Need-enum-told Inv-loop μ-loop
-enum-told c = search needs
 
 returns : tie.Need-returns Inv-loop μ-loop
 returns c = gap-four (c .before .before .before .before .before .before .before .before .before .before .loop .inv) (c .before .before .before .before .before .before .before .before .before .loop-test .taken) (c .before .before .before .before .before .before .before .class .ensures) (c .before .before .before .before .before .if2 .taken) (c .before .before .before .before .byte .ensures) (c .before .before .before .if3 .taken)
@@ -81,17 +51,17 @@ begin-spec =
     Inv-loop
     μ-loop
     loop-holds
-    shared-slice-read-class
-    class-requires
-    add-i
-    loop-less
+    (λ c. search needs)
+    (λ c κs. search needs)
+    (λ c. search needs)
+    (λ c. search needs)
     loop-again
-    add-byte
-    byte-requires
-    add-comment
-    comment-requires
-    enum-known-e
-    enum-told
+    (λ c. search needs)
+    (λ c κs. search needs)
+    (λ c. search needs)
+    (λ c κs. search needs)
+    (λ c. search needs)
+    (λ c. search needs)
     returns
     loop-less-2
     loop-again-2

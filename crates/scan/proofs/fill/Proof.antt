@@ -28,14 +28,8 @@ sub-next c = omega (arith, c .loop .inv .used, c .loop .inv .inside, c .loop .in
 part-next-start : tie.Need-part-next-start Inv-loop μ-loop
 part-next-start c = omega (arith, c .loop .inv .used, c .loop .inv .inside, c .loop .inv .space, c .loop .inv .wide)
 
-part-next-end : tie.Need-part-next-end Inv-loop μ-loop
-part-next-end c = search needs
-
 next-requires : tie.Need-next-requires Inv-loop μ-loop
 next-requires c κs = (c .before .before .before .before .before .pre .0, fill-room (c .before .loop .inv))
-
-enum-known-place : tie.Need-enum-known-place Inv-loop μ-loop
-enum-known-place c = search needs
 
 tok : (c : tie.After-place Inv-loop μ-loop) → let v = c .place .given .0 in
     IsToken (runAt idle (now (c .before .before .before .before .before .before .before .before .before .before .args .text)) (c .before .before .before .before .before .before .loop .cursor .at)) (now (c .before .before .before .before .before .before .before .before .before .before .args .text)) (c .before .before .before .before .before .before .loop .cursor .at) (c .before .before .before .before .next .last .1 .1 .1 .0) (v .1 .1 .1 .0) (v .0) (v .1 .0) (v .1 .1 .0 .at)
@@ -62,9 +56,6 @@ loop-less c = omega (arith, tok (c .before .before) .past, tok (c .before .befor
 loop-again : tie.Need-loop-again Inv-loop μ-loop
 loop-again c = rw (c .pack .ensures) (fill-more (c .before .before .before .before .before .before .before .before .loop .inv) (tok (c .before .before)) (omega (arith, length-part (c .before .before .before .before .before .before .before .before .loop .contents) (c .before .before .before .before .before .before .before .before .loop .k), c .before .before .before .before .before .before .next .kept)))
 
-enum-told : tie.Need-enum-told Inv-loop μ-loop
-enum-told c = search needs
-
 same-length : tie.Need-same-length Inv-loop μ-loop
 same-length c = c .before .before .before .before .before .before .loop .inv .long
 
@@ -73,9 +64,6 @@ same-length-2 c = fill-wide (c .before .before .before .before .before .before .
 
 returns : tie.Need-returns Inv-loop μ-loop
 returns c = fill-end (c .before .before .before .before .before .before .loop .inv) (c .before .before .before .before .next .last .1 .1 .1 .0) (omega (arith, length-part (c .before .before .before .before .before .before .loop .contents) (c .before .before .before .before .before .before .loop .k), c .before .before .before .before .next .kept)) (subst (IsScanned (runAt idle (now (c .before .before .before .before .before .before .before .before .before .before .args .text)) (c .before .before .before .before .before .before .loop .cursor .at)) (now (c .before .before .before .before .before .before .before .before .before .before .args .text)) (c .before .before .before .before .before .before .loop .cursor .at) (c .before .before .before .before .next .last .1 .1 .1 .0)) (c .enum-told .given .1) (c .before .before .before .before .next .ensures))
-
-enum-known-no : tie.Need-enum-known-no Inv-loop μ-loop
-enum-known-no c = search needs
 
 same-length-3 : tie.Need-same-length-3 Inv-loop μ-loop
 same-length-3 c = c .before .before .before .before .before .before .before .loop .inv .long
@@ -95,9 +83,9 @@ fill-spec =
     loop-holds
     sub-next
     part-next-start
-    part-next-end
+    (λ c. search needs)
     next-requires
-    enum-known-place
+    (λ c. search needs)
     pack-requires
     mul-toks
     slice-write-toks
@@ -105,11 +93,11 @@ fill-spec =
     add-k
     loop-less
     loop-again
-    enum-told
+    (λ c. search needs)
     same-length
     same-length-2
     returns
-    enum-known-no
+    (λ c. search needs)
     same-length-3
     same-length-4
     returns-2)

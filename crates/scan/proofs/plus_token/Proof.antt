@@ -14,9 +14,6 @@ add-skip c = omega (arith, inside (now (c .before .before .args .text)) (c .befo
 skip-requires : tie.Need-skip-requires
 skip-requires c κs = (search needs, omega (arith, inside (now (c .before .before .args .text)) (c .before .before .args .place) (c .before .before .pre .1)))
 
-byte-requires : tie.Need-byte-requires
-byte-requires c κs = search needs
-
 add-t9 : tie.Need-add-t9
 add-t9 c = omega (arith, inside (now (c .before .before .before .before .before .args .text)) (c .before .before .skip .result) (sym (c .before .byte .ensures) ∙ c .if1 .taken))
 
@@ -25,9 +22,6 @@ returns c = plus-double (now (c .before .before .before .before .before .args .t
 
 word-token-requires : tie.Need-word-token-requires
 word-token-requires c κs = (search needs, omega (arith, c .before .before .before .skip .ensures .past), c .before .before .before .skip .ensures .inside, omega (arith, c .before .before .before .skip .ensures .past, c .before .before .before .before .before .before .pre .2))
-
-same-length : tie.Need-same-length
-same-length c = search needs
 
 returns-2 : tie.Need-returns-2
 returns-2 c = again (now (c .before .before .before .before .before .before .before .before .before .args .text)) (c .before .before .before .before .before .before .before .before .before .args .place) (c .before .before .before .before .before .before .before .before .before .args .place) (c .before .before .word-token .last .1 .1 .1 .1 .1 .0) (c .before .before .word-token .result) (plus-one (now (c .before .before .before .before .before .before .before .before .before .args .text)) (c .before .before .before .before .before .before .before .before .before .args .place) (c .before .before .before .before .before .before .before .before .before .pre .1) (c .before .before .before .before .before .before .skip .ensures) (c .before .before .before .before .before .byte .ensures) (c .before .before .before .before .if1 .left)) (omega arith) (c .before .before .word-token .ensures)
@@ -38,9 +32,9 @@ plus-token-spec =
     (tie.spec
     add-skip
     skip-requires
-    byte-requires
+    (λ c κs. search needs)
     add-t9
     returns
     word-token-requires
-    same-length
+    (λ c. search needs)
     returns-2)

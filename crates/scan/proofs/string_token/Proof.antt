@@ -13,32 +13,14 @@ use Rattle.scan.proofs.string_token.Tie as tie
 add-string : tie.Need-add-string
 add-string c = omega (arith, inside (now (c .before .before .args .text)) (c .before .before .args .place) (c .before .before .pre .0))
 
-string-requires : tie.Need-string-requires
-string-requires c κs = search needs
-
-enum-known-len : tie.Need-enum-known-len
-enum-known-len c = search needs
-
 closed : (c : tie.After-len) → Ends (now (c .before .before .before .before .before .before .before .before .args .text)) (c .before .before .before .before .before .before .before .before .args .place + 1) (c .before .before .before .before .string .last .1 .1 .0) (c .len .given .0 .0) (c .len .given .0 .1 .0)
 closed c = subst (IsString (now (c .before .before .before .before .before .before .before .before .args .text)) (c .before .before .before .before .before .before .before .before .args .place + 1) (c .before .before .before .before .string .last .1 .1 .0)) (c .len .given .1) (c .before .before .before .before .string .ensures)
-
-same-length : tie.Need-same-length
-same-length c = search needs
 
 returns : tie.Need-returns
 returns c = string-fine (now (c .before .before .before .before .before .before .before .before .before .before .args .text)) (c .before .before .before .before .before .before .before .before .before .before .args .place) (c .before .before .before .before .before .before .before .before .before .before .pre .0) (closed (c .before .before)) (omega (arith, c .before .before .before .before .before .before .string .kept)) (c .if1 .taken)
 
-enum-told : tie.Need-enum-told
-enum-told c = search needs
-
-same-length-2 : tie.Need-same-length-2
-same-length-2 c = search needs
-
 returns-2 : tie.Need-returns-2
 returns-2 c = string-over (now (c .before .before .before .before .before .before .before .before .before .before .args .text)) (c .before .before .before .before .before .before .before .before .before .before .args .place) (c .before .before .before .before .before .before .before .before .before .before .pre .0) (closed (c .before .before)) (omega (arith, c .before .before .before .before .before .before .string .kept)) (c .if1 .left)
-
-same-length-3 : tie.Need-same-length-3
-same-length-3 c = search needs
 
 returns-3 : tie.Need-returns-3
 returns-3 c = string-never (now (c .before .before .before .before .before .before .before .before .args .text)) (c .before .before .before .before .before .before .before .before .args .place) (c .before .before .before .before .before .before .before .before .pre .0)
@@ -49,12 +31,12 @@ string-token-spec =
     tie.close
     (tie.spec
     add-string
-    string-requires
-    enum-known-len
-    same-length
+    (λ c κs. search needs)
+    (λ c. search needs)
+    (λ c. search needs)
     returns
-    enum-told
-    same-length-2
+    (λ c. search needs)
+    (λ c. search needs)
     returns-2
-    same-length-3
+    (λ c. search needs)
     returns-3)

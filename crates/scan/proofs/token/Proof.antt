@@ -6,17 +6,8 @@ use borrow.Author.Needs.{needs}
 use Rattle.scan.proofs.token.Statement.{statement}
 use Rattle.scan.proofs.token.Tie as tie
 
-shared-slice-read-word-token : tie.Need-shared-slice-read-word-token
-shared-slice-read-word-token c = search needs
-
-add-word-token : tie.Need-add-word-token
-add-word-token c = search needs
-
 word-token-requires : tie.Need-word-token-requires
 word-token-requires c κs = (search needs, omega arith, omega (arith, c .before .before .before .before .before .pre .1 .inside), omega (arith, c .before .before .before .before .before .pre .2))
-
-same-length : tie.Need-same-length
-same-length c = search needs
 
 returns : tie.Need-returns
 returns c = again (now (c .before .before .before .before .before .before .before .before .args .text)) (c .before .before .before .before .before .before .before .before .args .place) (c .before .before .before .before .before .before .before .before .args .place) (c .before .before .word-token .last .1 .1 .1 .1 .1 .0) (c .before .before .word-token .result) (starts-word (c .before .before .before .before .before .before .before .before .pre .1) (c .before .before .before .before .before .if1 .taken)) (omega arith) (c .before .before .word-token .ensures)
@@ -24,17 +15,8 @@ returns c = again (now (c .before .before .before .before .before .before .befor
 string-token-requires : tie.Need-string-token-requires
 string-token-requires c κs = (starts-string (c .before .before .before .before .before .before .pre .1) (c .before .if3 .taken), c .before .before .before .before .before .before .pre .2)
 
-same-length-2 : tie.Need-same-length-2
-same-length-2 c = search needs
-
-returns-2 : tie.Need-returns-2
-returns-2 c = search needs
-
 returns-3 : tie.Need-returns-3
 returns-3 c = starts-other (c .before .before .before .before .before .before .pre .1) (c .if4 .taken)
-
-add-t15 : tie.Need-add-t15
-add-t15 c = search needs
 
 returns-4 : tie.Need-returns-4
 returns-4 c = starts-one (c .before .before .before .before .before .before .pre .1) (c .before .before .if2 .taken) (c .before .if3 .left) (c .if4 .left) (now (c .before .before .before .before .before .before .args .out))
@@ -48,12 +30,6 @@ returns-5 c = c .amp-token .ensures (now (c .before .before .before .before .bef
 plus-token-requires : tie.Need-plus-token-requires
 plus-token-requires c κs = (search needs, starts-plus (c .before .before .before .before .before .before .before .pre .1) (c .before .if6 .taken), c .before .before .before .before .before .before .before .pre .2)
 
-same-length-3 : tie.Need-same-length-3
-same-length-3 c = search needs
-
-returns-6 : tie.Need-returns-6
-returns-6 c = search needs
-
 returns-7 : tie.Need-returns-7
 returns-7 c = starts-none (c .before .before .before .before .before .before .pre .1) (c .before .before .if2 .left) (c .before .before .before .if1 .left) (c .if6 .left) (c .before .if5 .left)
 
@@ -61,20 +37,20 @@ pub token-spec : {M : Type 1} → statement M
 token-spec =
     tie.close
     (tie.spec
-    shared-slice-read-word-token
-    add-word-token
+    (λ c. search needs)
+    (λ c. search needs)
     word-token-requires
-    same-length
+    (λ c. search needs)
     returns
     string-token-requires
-    same-length-2
-    returns-2
+    (λ c. search needs)
+    (λ c. search needs)
     returns-3
-    add-t15
+    (λ c. search needs)
     returns-4
     amp-token-requires
     returns-5
     plus-token-requires
-    same-length-3
-    returns-6
+    (λ c. search needs)
+    (λ c. search needs)
     returns-7)

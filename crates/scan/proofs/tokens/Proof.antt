@@ -10,28 +10,10 @@ use Rattle.scan.proofs.tokens.Tie as tie
 returns : tie.Need-returns
 returns c = whole-long (now (c .before .before .before .before .args .text)) (c .if1 .taken)
 
-first-off-requires : tie.Need-first-off-requires
-first-off-requires c κs = search needs
-
-enum-known-place : tie.Need-enum-known-place
-enum-known-place c = search needs
-
-enum-told : tie.Need-enum-told
-enum-told c = search needs
-
-fill-requires : tie.Need-fill-requires
-fill-requires c κs = search needs
-
 returns-2 : tie.Need-returns-2
 returns-2 c =
     let s = now (c .before .before .before .before .before .before .before .before .args .text) in
     whole-off s (c .before .before .before .before .if1 .left) (c .before .place .given .0 .0) (subst (IsOff s) (c .before .place .given .1) (c .before .before .before .first-off .ensures))
-
-same-length : tie.Need-same-length
-same-length c = search needs
-
-same-length-2 : tie.Need-same-length-2
-same-length-2 c = search needs
 
 returns-3 : tie.Need-returns-3
 returns-3 c =
@@ -44,11 +26,11 @@ tokens-spec =
     tie.close
     (tie.spec
     returns
-    first-off-requires
-    enum-known-place
-    enum-told
-    fill-requires
+    (λ c κs. search needs)
+    (λ c. search needs)
+    (λ c. search needs)
+    (λ c κs. search needs)
     returns-2
-    same-length
-    same-length-2
+    (λ c. search needs)
+    (λ c. search needs)
     returns-3)

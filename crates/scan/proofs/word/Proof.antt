@@ -15,20 +15,8 @@ Inv-loop text classes first from out₀ n₀ i₀ out n i = Wording text from fi
 abbrev μ-loop : tie.MeasureT-loop
 μ-loop text classes first from out₀ n₀ i₀ out n i = length text - i
 
-slice-write-out : tie.Need-slice-write-out Inv-loop μ-loop
-slice-write-out c = search needs
-
 loop-holds : tie.Need-loop-holds Inv-loop μ-loop
 loop-holds c = word-none _ _ _ (now (c .before .before .args .out)) (c .before .before .pre .1) (c .before .before .pre .2)
-
-shared-slice-read-class : tie.Need-shared-slice-read-class Inv-loop μ-loop
-shared-slice-read-class c = search needs
-
-class-requires : tie.Need-class-requires Inv-loop μ-loop
-class-requires c κs = search needs
-
-shared-slice-read-out : tie.Need-shared-slice-read-out Inv-loop μ-loop
-shared-slice-read-out c = search needs
 
 slice-write-out-2 : tie.Need-slice-write-out-2 Inv-loop μ-loop
 slice-write-out-2 c = word-room (c .before .before .before .before .before .loop .inv) (c .before .before .before .before .loop-test .taken)
@@ -36,32 +24,11 @@ slice-write-out-2 c = word-room (c .before .before .before .before .before .loop
 add-n : tie.Need-add-n Inv-loop μ-loop
 add-n c = omega (arith, c .before .before .before .before .before .loop .inv .fits)
 
-add-i : tie.Need-add-i Inv-loop μ-loop
-add-i c = search needs
-
-loop-less : tie.Need-loop-less Inv-loop μ-loop
-loop-less c = search needs
-
 loop-again : tie.Need-loop-again Inv-loop μ-loop
 loop-again c = word-char (c .before .before .before .before .before .loop .inv) (c .before .before .before .before .loop-test .taken) (c .before .before .class .ensures) (c .before .if1 .taken)
 
-add-i-2 : tie.Need-add-i-2 Inv-loop μ-loop
-add-i-2 c = search needs
-
-loop-less-2 : tie.Need-loop-less-2 Inv-loop μ-loop
-loop-less-2 c = search needs
-
 loop-again-2 : tie.Need-loop-again-2 Inv-loop μ-loop
 loop-again-2 c = word-skip (c .before .before .before .before .before .loop .inv) (c .before .before .before .before .loop-test .taken) (c .before .before .class .ensures) (c .if2 .taken)
-
-add-skip : tie.Need-add-skip Inv-loop μ-loop
-add-skip c = search needs
-
-skip-requires : tie.Need-skip-requires Inv-loop μ-loop
-skip-requires c κs = search needs
-
-byte-requires : tie.Need-byte-requires Inv-loop μ-loop
-byte-requires c κs = search needs
 
 same-length : tie.Need-same-length Inv-loop μ-loop
 same-length c = c .before .before .before .before .before .before .before .before .before .loop .inv .long ∙ length-set (now (c .before .before .before .before .before .before .before .before .before .before .before .before .args .out)) 0 (c .before .before .before .before .before .before .before .before .before .before .before .before .args .first)
@@ -99,22 +66,22 @@ word-spec =
     (tie.spec
     Inv-loop
     μ-loop
-    slice-write-out
+    (λ c. search needs)
     loop-holds
-    shared-slice-read-class
-    class-requires
-    shared-slice-read-out
+    (λ c. search needs)
+    (λ c κs. search needs)
+    (λ c. search needs)
     slice-write-out-2
     add-n
-    add-i
-    loop-less
+    (λ c. search needs)
+    (λ c. search needs)
     loop-again
-    add-i-2
-    loop-less-2
+    (λ c. search needs)
+    (λ c. search needs)
     loop-again-2
-    add-skip
-    skip-requires
-    byte-requires
+    (λ c. search needs)
+    (λ c κs. search needs)
+    (λ c κs. search needs)
     same-length
     returns
     slice-write-out-3

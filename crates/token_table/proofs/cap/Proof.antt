@@ -5,19 +5,13 @@ use Rattle.token_table.specs.Parts.{capped}
 use Rattle.token_table.proofs.cap.Statement.{statement}
 use Rattle.token_table.proofs.cap.Tie as tie
 
-cast-result : tie.Need-cast-result
-cast-result c = search needs
-
 returns : tie.Need-returns
 unfolding capped
 returns c = rw (le-leb _ _ (c .if1 .taken))
-
-cast-result-2 : tie.Need-cast-result-2
-cast-result-2 c = search needs
 
 returns-2 : tie.Need-returns-2
 unfolding capped
 returns-2 c = rw (lt-leb _ _ (c .if1 .left))
 
 pub cap-spec : {M : Type 1} → statement M
-cap-spec = tie.close (tie.spec cast-result returns cast-result-2 returns-2)
+cap-spec = tie.close (tie.spec (λ c. search needs) returns (λ c. search needs) returns-2)

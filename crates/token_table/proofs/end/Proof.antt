@@ -5,9 +5,6 @@ use borrow.Author.Needs.{needs}
 use Rattle.token_table.proofs.end.Statement.{statement}
 use Rattle.token_table.proofs.end.Tie as tie
 
-add-e : tie.Need-add-e
-add-e c = search needs
-
 returns : tie.Need-returns
 unfolding fromIn sizeIn
 returns c = rw (lt-ltb _ _ (c .if1 .taken))
@@ -17,4 +14,4 @@ unfolding fromIn sizeIn
 returns-2 c = rw (le-ltb _ _ (c .if1 .left))
 
 pub end-spec : {M : Type 1} → statement M
-end-spec = tie.close (tie.spec add-e returns returns-2)
+end-spec = tie.close (tie.spec (λ c. search needs) returns returns-2)

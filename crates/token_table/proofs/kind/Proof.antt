@@ -4,12 +4,9 @@ use borrow.Author.Needs.{needs}
 use Rattle.token_table.proofs.kind.Statement.{statement}
 use Rattle.token_table.proofs.kind.Tie as tie
 
-cast-result : tie.Need-cast-result
-cast-result c = search needs
-
 returns : tie.Need-returns
 unfolding kindIn
 returns c = search needs
 
 pub kind-spec : {M : Type 1} → statement M
-kind-spec = tie.close (tie.spec cast-result returns)
+kind-spec = tie.close (tie.spec (λ c. search needs) returns)

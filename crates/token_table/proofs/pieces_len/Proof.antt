@@ -21,32 +21,8 @@ abbrev μ-loop : tie.MeasureT-loop
 loop-holds : tie.Need-loop-holds Inv-loop μ-loop
 loop-holds c = (ap capped (omega arith), omega arith)
 
-cast-cap : tie.Need-cast-cap Inv-loop μ-loop
-cast-cap c = search needs
-
-add-cap : tie.Need-add-cap Inv-loop μ-loop
-add-cap c = search needs
-
-mul-content-len : tie.Need-mul-content-len Inv-loop μ-loop
-mul-content-len c = search needs
-
-shared-slice-read-content-len : tie.Need-shared-slice-read-content-len Inv-loop μ-loop
-shared-slice-read-content-len c = search needs
-
-content-len-requires : tie.Need-content-len-requires Inv-loop μ-loop
-content-len-requires c κs = search needs
-
 add-cap-2 : tie.Need-add-cap-2 Inv-loop μ-loop
 add-cap-2 c = omega (arith, c .content-len .ensures, content-small (c .before .before .before .before .before .before .args .contents .now) (getD (c .before .before .before .before .before .before .args .toks .now) (c .before .before .before .loop .i) 0))
-
-cap-requires : tie.Need-cap-requires Inv-loop μ-loop
-cap-requires c κs = search needs
-
-add-i : tie.Need-add-i Inv-loop μ-loop
-add-i c = search needs
-
-loop-less : tie.Need-loop-less Inv-loop μ-loop
-loop-less c = search needs
 
 loop-again : tie.Need-loop-again Inv-loop μ-loop
 loop-again c = (search (needs, size-more), search (needs, cap-most))
@@ -61,14 +37,14 @@ pieces-len-spec =
     Inv-loop
     μ-loop
     loop-holds
-    cast-cap
-    add-cap
-    mul-content-len
-    shared-slice-read-content-len
-    content-len-requires
+    (λ c. search needs)
+    (λ c. search needs)
+    (λ c. search needs)
+    (λ c. search needs)
+    (λ c κs. search needs)
     add-cap-2
-    cap-requires
-    add-i
-    loop-less
+    (λ c κs. search needs)
+    (λ c. search needs)
+    (λ c. search needs)
     loop-again
     returns)

@@ -4,12 +4,9 @@ use borrow.Author.Needs.{needs}
 use Rattle.token_table.proofs.place.Statement.{statement}
 use Rattle.token_table.proofs.place.Tie as tie
 
-cast-result : tie.Need-cast-result
-cast-result c = search needs
-
 returns : tie.Need-returns
 unfolding placeIn
 returns c = search needs
 
 pub place-spec : {M : Type 1} → statement M
-place-spec = tie.close (tie.spec cast-result returns)
+place-spec = tie.close (tie.spec (λ c. search needs) returns)

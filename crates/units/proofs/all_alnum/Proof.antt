@@ -7,30 +7,12 @@ use lib.ListN.{length}
 use Prim.Native.Nat.{_-_}
 use Rattle.units.proofs.all_alnum.Statement.{statement}
 use Rattle.units.proofs.all_alnum.Tie as tie
-use Rattle.units.proofs.all_alnum.Reads as reads
-use Rattle.units.proofs.all_alnum.Lts as lts
-use Rattle.digits.proofs.is_alnum.Reads as is-alnum-reads
 
 abbrev Inv-loop : tie.InvT-loop
 Inv-loop word from i₀ i = allAt isAlnum word from ≡ allAt isAlnum word i
 
 abbrev μ-loop : tie.MeasureT-loop
 μ-loop word from i₀ i = length word - i
-
-loop-holds : tie.Need-loop-holds Inv-loop μ-loop
-loop-holds c = search needs
-
-shared-slice-read-is-alnum : tie.Need-shared-slice-read-is-alnum Inv-loop μ-loop
-shared-slice-read-is-alnum c = search needs
-
-is-alnum-requires : tie.Need-is-alnum-requires Inv-loop μ-loop
-is-alnum-requires c κs = search needs
-
-add-i : tie.Need-add-i Inv-loop μ-loop
-add-i c = search needs
-
-loop-less : tie.Need-loop-less Inv-loop μ-loop
-loop-less c = search needs
 
 loop-again : tie.Need-loop-again Inv-loop μ-loop
 loop-again c = search (needs, all-more)
@@ -47,11 +29,11 @@ all-alnum-spec =
     (tie.spec
     Inv-loop
     μ-loop
-    loop-holds
-    shared-slice-read-is-alnum
-    is-alnum-requires
-    add-i
-    loop-less
+    (λ c. search needs)
+    (λ c. search needs)
+    (λ c κs. search needs)
+    (λ c. search needs)
+    (λ c. search needs)
     loop-again
     returns
     returns-2)

@@ -7,30 +7,12 @@ use lib.ListN.{length}
 use Prim.Native.Nat.{_-_}
 use Rattle.units.proofs.all_decimal.Statement.{statement}
 use Rattle.units.proofs.all_decimal.Tie as tie
-use Rattle.units.proofs.all_decimal.Reads as reads
-use Rattle.units.proofs.all_decimal.Lts as lts
-use Rattle.digits.proofs.is_digit.Reads as is-digit-reads
 
 abbrev Inv-loop : tie.InvT-loop
 Inv-loop word from i₀ i = allAt isDigit word from ≡ allAt isDigit word i
 
 abbrev μ-loop : tie.MeasureT-loop
 μ-loop word from i₀ i = length word - i
-
-loop-holds : tie.Need-loop-holds Inv-loop μ-loop
-loop-holds c = search needs
-
-shared-slice-read-is-digit : tie.Need-shared-slice-read-is-digit Inv-loop μ-loop
-shared-slice-read-is-digit c = search needs
-
-is-digit-requires : tie.Need-is-digit-requires Inv-loop μ-loop
-is-digit-requires c κs = search needs
-
-add-i : tie.Need-add-i Inv-loop μ-loop
-add-i c = search needs
-
-loop-less : tie.Need-loop-less Inv-loop μ-loop
-loop-less c = search needs
 
 loop-again : tie.Need-loop-again Inv-loop μ-loop
 loop-again c = search (needs, all-more)
@@ -47,11 +29,11 @@ all-decimal-spec =
     (tie.spec
     Inv-loop
     μ-loop
-    loop-holds
-    shared-slice-read-is-digit
-    is-digit-requires
-    add-i
-    loop-less
+    (λ c. search needs)
+    (λ c. search needs)
+    (λ c κs. search needs)
+    (λ c. search needs)
+    (λ c. search needs)
     loop-again
     returns
     returns-2)

@@ -9,23 +9,10 @@ use Rattle.units.specs.declared.Word.{Word as Answer}
 use Rattle.units.specs.Words.{orName}
 use Rattle.units.proofs.bare_unit.Statement.{statement}
 use Rattle.units.proofs.bare_unit.Tie as tie
-use Rattle.units.proofs.bare_unit.Reads as reads
-use Rattle.units.proofs.bare_unit.Lts as lts
-use Rattle.units.proofs.name_unit.Reads as name-unit-reads
-use Rattle.units.proofs.base_unit.Reads as base-unit-reads
 
 other : (w : List ℕ) (a : Answer) → Other a → a ≡ orName w a
 unfolding orName
 other w = by-other (λ a. a ≡ orName w a) (λ l f v. refl) (λ k. refl) refl refl refl
-
-base-unit-requires : tie.Need-base-unit-requires
-base-unit-requires c κs = search needs
-
-enum-told : tie.Need-enum-told
-enum-told c = search needs
-
-name-unit-requires : tie.Need-name-unit-requires
-name-unit-requires c κs = search needs
 
 returns : tie.Need-returns
 unfolding orName
@@ -36,4 +23,4 @@ returns-2 c = other (now (c .before .before .before .args .word)) (c .before .ba
 
 pub bare-unit-spec : {M : Type 1} → statement M
 bare-unit-spec =
-    tie.close (tie.spec base-unit-requires enum-told name-unit-requires returns returns-2)
+    tie.close (tie.spec (λ c κs. search needs) (λ c. search needs) (λ c κs. search needs) returns returns-2)

@@ -4,16 +4,6 @@ use denote.Ref.{now}
 use Rattle.units.proofs.WordLaws.{symbol-digits, symbol-yes, symbol-no}
 use Rattle.units.proofs.is_symbolic.Statement.{statement}
 use Rattle.units.proofs.is_symbolic.Tie as tie
-use Rattle.units.proofs.is_symbolic.Reads as reads
-use Rattle.units.proofs.is_symbolic.Lts as lts
-use Rattle.units.proofs.all_decimal.Reads as all-decimal-reads
-use Rattle.units.proofs.all_signs.Reads as all-signs-reads
-
-all-signs-requires : tie.Need-all-signs-requires
-all-signs-requires c κs = search needs
-
-all-decimal-requires : tie.Need-all-decimal-requires
-all-decimal-requires c κs = search needs
 
 returns : tie.Need-returns
 returns c = symbol-digits (now (c .before .before .before .before .before .args .word)) (c .before .all-decimal .ensures) (c .if2 .taken)
@@ -26,4 +16,4 @@ returns-3 c = symbol-no (now (c .before .before .before .args .word)) (c .before
 
 pub is-symbolic-spec : {M : Type 1} → statement M
 is-symbolic-spec =
-    tie.close (tie.spec all-signs-requires all-decimal-requires returns returns-2 returns-3)
+    tie.close (tie.spec (λ c κs. search needs) (λ c κs. search needs) returns returns-2 returns-3)

@@ -3,20 +3,10 @@ use borrow.Author.Needs.{needs}
 use Rattle.units.specs.Words.{nameUnit}
 use Rattle.units.proofs.name_unit.Statement.{statement}
 use Rattle.units.proofs.name_unit.Tie as tie
-use Rattle.units.proofs.name_unit.Reads as reads
-use Rattle.units.proofs.name_unit.Lts as lts
-use Rattle.units.proofs.is_identifier.Reads as is-identifier-reads
-use Rattle.units.proofs.is_symbolic.Reads as is-symbolic-reads
-
-is-identifier-requires : tie.Need-is-identifier-requires
-is-identifier-requires c κs = search needs
 
 returns : tie.Need-returns
 unfolding nameUnit
 returns c = rw (← c .before .is-identifier .ensures, c .if1 .taken)
-
-is-symbolic-requires : tie.Need-is-symbolic-requires
-is-symbolic-requires c κs = search needs
 
 returns-2 : tie.Need-returns-2
 unfolding nameUnit
@@ -28,4 +18,4 @@ returns-3 c = rw (← c .before .before .before .is-identifier .ensures, c .befo
 
 pub name-unit-spec : {M : Type 1} → statement M
 name-unit-spec =
-    tie.close (tie.spec is-identifier-requires returns is-symbolic-requires returns-2 returns-3)
+    tie.close (tie.spec (λ c κs. search needs) returns (λ c κs. search needs) returns-2 returns-3)

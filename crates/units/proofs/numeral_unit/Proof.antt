@@ -6,13 +6,6 @@ use denote.Ref.{now}
 use Rattle.units.proofs.WordLaws.{keys-yes, keys-no, keys-none}
 use Rattle.units.proofs.numeral_unit.Statement.{statement}
 use Rattle.units.proofs.numeral_unit.Tie as tie
-use Rattle.units.proofs.numeral_unit.Reads as reads
-use Rattle.units.proofs.numeral_unit.Lts as lts
-use Rattle.units.proofs.all_keys.Reads as all-keys-reads
-use Rattle.units.proofs.plain_unit.Reads as plain-unit-reads
-
-all-keys-requires : tie.Need-all-keys-requires
-all-keys-requires c κs = search needs
 
 returns : tie.Need-returns
 returns c = let a = c .before .before .before .before .before .args in keys-yes (a .letter) (now (a .word)) (a .from) (c .before .before .before .if1 .taken) (c .before .before .if2 .taken) (c .before .all-keys .ensures) (c .if3 .taken)
@@ -23,13 +16,10 @@ returns-2 c = let a = c .before .before .before .before .before .args in keys-no
 returns-3 : tie.Need-returns-3
 returns-3 c = let a = c .before .before .before .args in keys-none (a .letter) (now (a .word)) (a .from) (c .before .if1 .taken) (c .if2 .left)
 
-plain-unit-requires : tie.Need-plain-unit-requires
-plain-unit-requires c κs = search needs
-
 returns-4 : tie.Need-returns-4
 returns-4 c = let a = c .before .before .before .args in c .plain-unit .ensures ∙ plain-is (a .letter) (now (a .word)) (a .from) (c .before .if1 .left)
 
 pub numeral-unit-spec : {M : Type 1} → statement M
 numeral-unit-spec =
     tie.close
-    (tie.spec all-keys-requires returns returns-2 returns-3 plain-unit-requires returns-4)
+    (tie.spec (λ c κs. search needs) returns returns-2 returns-3 (λ c κs. search needs) returns-4)

@@ -6,15 +6,6 @@ use Rattle.units.specs.Words.{plainUnit}
 use borrow.Author.Tests.{le-leb, lt-leb, eq-eqb, ne-eqb, lt-ltb, le-ltb}
 use Rattle.units.proofs.plain_unit.Statement.{statement}
 use Rattle.units.proofs.plain_unit.Tie as tie
-use Rattle.units.proofs.plain_unit.Reads as reads
-use Rattle.units.proofs.plain_unit.Lts as lts
-use Rattle.digits.proofs.digits.Reads as digits-reads
-use Rattle.units.proofs.fraction_unit.Reads as fraction-unit-reads
-use Rattle.digits.proofs.size.Reads as size-reads
-use Rattle.units.proofs.sized_unit.Reads as sized-unit-reads
-
-size-requires : tie.Need-size-requires
-size-requires c κs = search needs
 
 digits-requires : tie.Need-digits-requires
 digits-requires c κs = omega (arith, size-high (c .before .before .args .letter))
@@ -22,9 +13,6 @@ digits-requires c κs = omega (arith, size-high (c .before .before .args .letter
 returns : tie.Need-returns
 unfolding plainUnit
 returns c = rw (← c .before .before .before .size .ensures, ← c .before .before .digits .ensures, le-leb _ _ (c .if1 .taken))
-
-fraction-unit-requires : tie.Need-fraction-unit-requires
-fraction-unit-requires c κs = search needs
 
 returns-2 : tie.Need-returns-2
 unfolding plainUnit
@@ -34,9 +22,6 @@ returns-3 : tie.Need-returns-3
 unfolding plainUnit
 returns-3 c = rw (← c .before .before .before .before .before .before .size .ensures, ← c .before .before .before .before .before .digits .ensures, lt-leb _ _ (c .before .before .before .if1 .left), lt-ltb _ _ (c .before .if2 .taken), ne-eqb _ _ (c .if3 .left))
 
-sized-unit-requires : tie.Need-sized-unit-requires
-sized-unit-requires c κs = search needs
-
 returns-4 : tie.Need-returns-4
 unfolding plainUnit
 returns-4 c = rw (← c .before .before .before .before .before .before .size .ensures, ← c .before .before .before .before .before .digits .ensures, lt-leb _ _ (c .before .before .before .if1 .left), le-ltb _ _ (c .before .if2 .left)) (c .sized-unit .ensures)
@@ -45,11 +30,11 @@ pub plain-unit-spec : {M : Type 1} → statement M
 plain-unit-spec =
     tie.close
     (tie.spec
-    size-requires
+    (λ c κs. search needs)
     digits-requires
     returns
-    fraction-unit-requires
+    (λ c κs. search needs)
     returns-2
     returns-3
-    sized-unit-requires
+    (λ c κs. search needs)
     returns-4)

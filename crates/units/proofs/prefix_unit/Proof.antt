@@ -3,23 +3,6 @@ use borrow.Author.Needs.{needs}
 use Rattle.units.specs.Words.{prefixUnit}
 use Rattle.units.proofs.prefix_unit.Statement.{statement}
 use Rattle.units.proofs.prefix_unit.Tie as tie
-use Rattle.units.proofs.prefix_unit.Reads as reads
-use Rattle.units.proofs.prefix_unit.Lts as lts
-use Rattle.digits.proofs.capital_of.Reads as capital-of-reads
-use Rattle.units.proofs.may_stand.Reads as may-stand-reads
-use Rattle.units.proofs.numeral_unit.Reads as numeral-unit-reads
-
-shared-slice-read-capital-of : tie.Need-shared-slice-read-capital-of
-shared-slice-read-capital-of c = search needs
-
-capital-of-requires : tie.Need-capital-of-requires
-capital-of-requires c κs = search needs
-
-may-stand-requires : tie.Need-may-stand-requires
-may-stand-requires c κs = search needs
-
-numeral-unit-requires : tie.Need-numeral-unit-requires
-numeral-unit-requires c κs = search needs
 
 returns : tie.Need-returns
 unfolding prefixUnit
@@ -34,9 +17,9 @@ pub prefix-unit-spec : {M : Type 1} → statement M
 prefix-unit-spec =
     tie.close
     (tie.spec
-    shared-slice-read-capital-of
-    capital-of-requires
-    may-stand-requires
-    numeral-unit-requires
+    (λ c. search needs)
+    (λ c κs. search needs)
+    (λ c κs. search needs)
+    (λ c κs. search needs)
     returns
     returns-2)

@@ -4,8 +4,6 @@ use Rattle.units.specs.Words.{sized}
 use borrow.Author.Tests.{le-leb, lt-leb}
 use Rattle.units.proofs.sized_unit.Statement.{statement}
 use Rattle.units.proofs.sized_unit.Tie as tie
-use Rattle.units.proofs.sized_unit.Reads as reads
-use Rattle.units.proofs.sized_unit.Lts as lts
 
 returns : tie.Need-returns
 unfolding sized
@@ -15,15 +13,9 @@ returns-2 : tie.Need-returns-2
 unfolding sized
 returns-2 c = rw (le-leb _ _ (c .before .if1 .left), lt-leb _ _ (c .if2 .taken))
 
-cast-t5 : tie.Need-cast-t5
-cast-t5 c = search needs
-
-cast-t6 : tie.Need-cast-t6
-cast-t6 c = search needs
-
 returns-3 : tie.Need-returns-3
 unfolding sized
 returns-3 c = rw (le-leb _ _ (c .before .if1 .left), le-leb _ _ (c .if2 .left))
 
 pub sized-unit-spec : {M : Type 1} → statement M
-sized-unit-spec = tie.close (tie.spec returns returns-2 cast-t5 cast-t6 returns-3)
+sized-unit-spec = tie.close (tie.spec returns returns-2 (λ c. search needs) (λ c. search needs) returns-3)

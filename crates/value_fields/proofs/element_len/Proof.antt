@@ -23,19 +23,10 @@ few c =
       omega (arith, c .before .before .head-len .ensures, c .before .units-len .ensures, c .unit-len .ensures),
     )
 
-head-len-requires : tie.Need-head-len-requires
-head-len-requires c κs = search needs
-
-units-len-requires : tie.Need-units-len-requires
-units-len-requires c κs = search needs
-
 add-result : tie.Need-add-result
 add-result c =
     let a = c .before .before .before .before .args in
     omega (arith, c .before .head-len .ensures, c .units-len .ensures, head-small (a .x), units-small (a .leads) (a .base) (now (a .contents)) (now (a .toks)) (a .front))
-
-unit-len-requires : tie.Need-unit-len-requires
-unit-len-requires c κs = search needs
 
 add-result-2 : tie.Need-add-result-2
 add-result-2 c = omega (arith, few c)
@@ -47,9 +38,9 @@ pub element-len-spec : {M : Type 1} → statement M
 element-len-spec =
     tie.close
     (tie.spec
-    head-len-requires
-    units-len-requires
+    (λ c κs. search needs)
+    (λ c κs. search needs)
     add-result
-    unit-len-requires
+    (λ c κs. search needs)
     add-result-2
     returns)

@@ -16,9 +16,6 @@ Inv-loop toks contents base leads n₀ front₀ total₀ n front total = Measuri
 abbrev μ-loop : tie.MeasureT-loop
 μ-loop toks contents base leads n₀ front₀ total₀ n front total = count toks - n
 
-arg-end-requires : tie.Need-arg-end-requires Inv-loop μ-loop
-arg-end-requires c κs = search needs
-
 sub-leads : tie.Need-sub-leads Inv-loop μ-loop
 sub-leads c = omega (arith, c .arg-end .ensures 0 [])
 
@@ -26,21 +23,6 @@ loop-holds : tie.Need-loop-holds Inv-loop μ-loop
 loop-holds c =
     let s = c .before .before .before in let a = s .args in
     measuring-none (a .base) (now (a .contents)) (now (a .toks)) (s .pre) (c .arg-end .ensures)
-
-count-requires : tie.Need-count-requires Inv-loop μ-loop
-count-requires c κs = search needs
-
-later-requires : tie.Need-later-requires Inv-loop μ-loop
-later-requires c κs = search needs
-
-outcome-requires : tie.Need-outcome-requires Inv-loop μ-loop
-outcome-requires c κs = search needs
-
-sep-kind-requires : tie.Need-sep-kind-requires Inv-loop μ-loop
-sep-kind-requires c κs = search needs
-
-front-of-requires : tie.Need-front-of-requires Inv-loop μ-loop
-front-of-requires c κs = search needs
 
 last-of-requires : tie.Need-last-of-requires Inv-loop μ-loop
 last-of-requires c κs =
@@ -99,14 +81,14 @@ elements-len-spec =
     (tie.spec
     Inv-loop
     μ-loop
-    arg-end-requires
+    (λ c κs. search needs)
     sub-leads
     loop-holds
-    count-requires
-    later-requires
-    outcome-requires
-    sep-kind-requires
-    front-of-requires
+    (λ c κs. search needs)
+    (λ c κs. search needs)
+    (λ c κs. search needs)
+    (λ c κs. search needs)
+    (λ c κs. search needs)
     last-of-requires
     element-len-requires
     add-total

@@ -7,11 +7,8 @@ use Rattle.value_fields.proofs.last_of.Tie as tie
 returns : tie.Need-returns
 returns c = rw (eq-eqb _ _ (c .if1 .taken))
 
-add-result : tie.Need-add-result
-add-result c = search needs
-
 returns-2 : tie.Need-returns-2
 returns-2 c = rw (ne-eqb _ _ (c .if1 .left))
 
 pub last-of-spec : {M : Type 1} → statement M
-last-of-spec = tie.close (tie.spec returns add-result returns-2)
+last-of-spec = tie.close (tie.spec returns (λ c. search needs) returns-2)

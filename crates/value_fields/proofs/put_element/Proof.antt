@@ -45,9 +45,6 @@ sub-put-units c = omega (arith, room (c .before .before .before .before .before 
 part-put-units-start : tie.Need-part-put-units-start
 part-put-units-start c = omega (arith, room (c .before .before .before .before .before .before .before))
 
-part-put-units-end : tie.Need-part-put-units-end
-part-put-units-end c = search needs
-
 put-units-requires : tie.Need-put-units-requires
 put-units-requires c κs =
     let d = c .before .before .before in let s = d .before .before .before .before .before in
@@ -66,9 +63,6 @@ part-put-unit-start c =
     let u = c .before .before in let d = u .before .before .before .before in
     omega (arith, room (c .before .before .before .before .before .before .before .before .before .before .before), units u .long, d .put-head .ensures .0, u .put-units .ensures .0)
 
-part-put-unit-end : tie.Need-part-put-unit-end
-part-put-unit-end c = search needs
-
 put-unit-requires : tie.Need-put-unit-requires
 put-unit-requires c κs =
     let u = c .before .before .before in let d = u .before .before .before .before in let s = c .before .before .before .before .before .before .before .before .before .before .before .before in
@@ -78,9 +72,6 @@ add-result : tie.Need-add-result
 add-result c =
     let t = c .before .before in let u = t .before .before .before .before in let d = u .before .before .before .before in
     omega (arith, room (c .before .before .before .before .before .before .before .before .before .before .before .before .before .before .before), t .put-unit .ensures .0, d .put-head .ensures .0, u .put-units .ensures .0, c .before .before .before .before .before .before .before .before .before .before .before .before .before .before .before .good .0 .0)
-
-same-length : tie.Need-same-length
-same-length c = search needs
 
 returns : tie.Need-returns
 unfolding elementBytes
@@ -103,13 +94,13 @@ put-element-spec =
     put-head-requires
     sub-put-units
     part-put-units-start
-    part-put-units-end
+    (λ c. search needs)
     put-units-requires
     add-q
     sub-put-unit
     part-put-unit-start
-    part-put-unit-end
+    (λ c. search needs)
     put-unit-requires
     add-result
-    same-length
+    (λ c. search needs)
     returns)

@@ -19,9 +19,6 @@ Inv-loop out₀ toks contents base leads n₀ front₀ k₀ out n front k = Writ
 abbrev μ-loop : tie.MeasureT-loop
 μ-loop out₀ toks contents base leads n₀ front₀ k₀ out n front k = count toks - n
 
-arg-end-requires : tie.Need-arg-end-requires Inv-loop μ-loop
-arg-end-requires c κs = search needs
-
 sub-leads : tie.Need-sub-leads Inv-loop μ-loop
 sub-leads c = omega (arith, c .arg-end .ensures 0 [])
 
@@ -30,25 +27,10 @@ loop-holds c =
     let s = c .before .before .before .before in let a = s .args in
     writing-none (a .base) (now (a .contents)) (now (a .toks)) (now (a .out)) (s .pre) (c .arg-end .ensures)
 
-count-requires : tie.Need-count-requires Inv-loop μ-loop
-count-requires c κs = search needs
-
-later-requires : tie.Need-later-requires Inv-loop μ-loop
-later-requires c κs = search needs
-
-outcome-requires : tie.Need-outcome-requires Inv-loop μ-loop
-outcome-requires c κs = search needs
-
-sep-kind-requires : tie.Need-sep-kind-requires Inv-loop μ-loop
-sep-kind-requires c κs = search needs
-
 last-of-requires : tie.Need-last-of-requires Inv-loop μ-loop
 last-of-requires c κs =
     let d = c .before .before .before in
     omega (arith, d .before .before .loop .inv .between .short, d .before .count .ensures, d .if1 .taken)
-
-front-of-requires : tie.Need-front-of-requires Inv-loop μ-loop
-front-of-requires c κs = search needs
 
 -- the element that is met at this turn, and the room for it
 meets : (c : tie.After-front-of Inv-loop μ-loop) →
@@ -77,9 +59,6 @@ sub-put-element c = omega (arith, room c)
 
 part-put-element-start : tie.Need-part-put-element-start Inv-loop μ-loop
 part-put-element-start c = omega (arith, room c)
-
-part-put-element-end : tie.Need-part-put-element-end Inv-loop μ-loop
-part-put-element-end c = search needs
 
 put-element-requires : tie.Need-put-element-requires Inv-loop μ-loop
 put-element-requires c κs =
@@ -115,18 +94,18 @@ put-elements-spec =
     (tie.spec
     Inv-loop
     μ-loop
-    arg-end-requires
+    (λ c κs. search needs)
     sub-leads
     loop-holds
-    count-requires
-    later-requires
-    outcome-requires
-    sep-kind-requires
+    (λ c κs. search needs)
+    (λ c κs. search needs)
+    (λ c κs. search needs)
+    (λ c κs. search needs)
     last-of-requires
-    front-of-requires
+    (λ c κs. search needs)
     sub-put-element
     part-put-element-start
-    part-put-element-end
+    (λ c. search needs)
     put-element-requires
     add-k
     loop-less

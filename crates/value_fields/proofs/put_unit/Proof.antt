@@ -10,24 +10,6 @@ use native.Mathlib.Omega.{arith}
 use Rattle.value_fields.proofs.put_unit.Statement.{statement}
 use Rattle.value_fields.proofs.put_unit.Tie as tie
 
-add-t : tie.Need-add-t
-add-t c = search needs
-
-mul-t : tie.Need-mul-t
-mul-t c = search needs
-
-shared-slice-read-t : tie.Need-shared-slice-read-t
-shared-slice-read-t c = search needs
-
-start-requires : tie.Need-start-requires
-start-requires c κs = search needs
-
-end-requires : tie.Need-end-requires
-end-requires c κs = search needs
-
-kind-requires : tie.Need-kind-requires
-kind-requires c κs = search needs
-
 -- what is cut out is the unit's content
 cut : (c : tie.After-end) → let a = c .before .before .before .before .before .before .args in
     Cuts (now (a .contents)) (getD (now (a .toks)) (a .n + a .n) 0) (c .before .start .result) (c .end .result)
@@ -53,18 +35,12 @@ part-read-word-start c = omega (arith, cut (c .before .before .before .before))
 part-read-word-end : tie.Need-part-read-word-end
 part-read-word-end c = omega (arith, cut (c .before .before .before .before))
 
-read-word-requires : tie.Need-read-word-requires
-read-word-requires c κs = search needs
-
 put-unit-requires : tie.Need-put-unit-requires
 put-unit-requires c κs =
     let e = c .before .before .before .before .before .before in let s = e .before .before .before .before .before .before in let a = s .args in
     let w = lent (a .base) (now (a .contents)) (getD (now (a .toks)) (a .n + a .n) 0) (cut e) (c .read-word .ensures) in
     let z = word-part (a .base) (now (a .contents)) (now (a .toks)) (a .n) (cut e) (c .before .before .before .before .before .kind .ensures) (c .before .before .before .before .if1 .taken) (c .read-word .ensures) in
     (w .0, w .1, rw z at (s .pre .1))
-
-same-length : tie.Need-same-length
-same-length c = search needs
 
 returns : tie.Need-returns
 returns c =
@@ -86,9 +62,6 @@ put-field-requires c κs =
     let z = string-part (a .base) (now (a .contents)) (now (a .toks)) (a .n) (cut e) (c .before .before .before .kind .ensures) (c .before .before .if1 .left) in
     (simp (length-take, length-drop) (omega (arith, cut e)), omega (arith, rw z at (s .pre .1)))
 
-same-length-2 : tie.Need-same-length-2
-same-length-2 c = search needs
-
 returns-2 : tie.Need-returns-2
 returns-2 c =
     let e = c .before .before .before .before .before .before .before in let s = e .before .before .before .before .before .before in let a = s .args in
@@ -99,25 +72,25 @@ pub put-unit-spec : {M : Type 1} → statement M
 put-unit-spec =
     tie.close
     (tie.spec
-    add-t
-    mul-t
-    shared-slice-read-t
-    start-requires
-    end-requires
-    kind-requires
+    (λ c. search needs)
+    (λ c. search needs)
+    (λ c. search needs)
+    (λ c κs. search needs)
+    (λ c κs. search needs)
+    (λ c κs. search needs)
     sub-put-unit
     part-put-unit-start
     part-put-unit-end
     sub-read-word
     part-read-word-start
     part-read-word-end
-    read-word-requires
+    (λ c κs. search needs)
     put-unit-requires
-    same-length
+    (λ c. search needs)
     returns
     sub-put-field
     part-put-field-start
     part-put-field-end
     put-field-requires
-    same-length-2
+    (λ c. search needs)
     returns-2)

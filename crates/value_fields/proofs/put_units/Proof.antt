@@ -22,12 +22,6 @@ sub-put-unit c = omega (arith, putting-room (c .before .loop .inv) (c .before .b
 part-put-unit-start : tie.Need-part-put-unit-start Inv-loop μ-loop
 part-put-unit-start c = omega (arith, putting-room (c .before .loop .inv) (c .before .before .before .before .before .pre .1) (c .loop-test .taken))
 
-part-put-unit-end : tie.Need-part-put-unit-end Inv-loop μ-loop
-part-put-unit-end c = search needs
-
-add-put-unit : tie.Need-add-put-unit Inv-loop μ-loop
-add-put-unit c = search needs
-
 put-unit-requires : tie.Need-put-unit-requires Inv-loop μ-loop
 put-unit-requires c κs =
     let l = c .before .before .loop in let s = c .before .before .before .before .before .before in
@@ -37,12 +31,6 @@ add-k : tie.Need-add-k Inv-loop μ-loop
 add-k c =
     let l = c .before .before .before .before .before .loop in let s = c .before .before .before .before .before .before .before .before .before in
     omega (arith, c .before .before .put-unit .ensures .0, putting-room (l .inv) (s .pre .1) (c .before .before .before .before .loop-test .taken), l .inv .long, s .good .0 .0)
-
-add-i : tie.Need-add-i Inv-loop μ-loop
-add-i c = search needs
-
-loop-less : tie.Need-loop-less Inv-loop μ-loop
-loop-less c = search needs
 
 loop-again : tie.Need-loop-again Inv-loop μ-loop
 loop-again c =
@@ -64,12 +52,12 @@ put-units-spec =
     loop-holds
     sub-put-unit
     part-put-unit-start
-    part-put-unit-end
-    add-put-unit
+    (λ c. search needs)
+    (λ c. search needs)
     put-unit-requires
     add-k
-    add-i
-    loop-less
+    (λ c. search needs)
+    (λ c. search needs)
     loop-again
     same-length
     returns)

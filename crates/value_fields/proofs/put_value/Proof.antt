@@ -12,9 +12,6 @@ use native.Mathlib.Omega.{arith}
 use Rattle.value_fields.proofs.put_value.Statement.{statement}
 use Rattle.value_fields.proofs.put_value.Tie as tie
 
-slice-aggregate-put-field : tie.Need-slice-aggregate-put-field
-slice-aggregate-put-field c = search needs
-
 -- the room that both fields take
 room : (c : tie.After-put-field-arg2) → let a = c .before .before .before .before .before .before .args in 3 + length (bytesAt (a .base) (now (a .contents)) (now (a .toks)) 0) ≤ length (now (a .out))
 room c = let s = c .before .before .before .before .before .before in let a = s .args in one-room (a .base) (now (a .contents)) (now (a .toks)) (now (a .out)) (c .before .before .if1 .taken) (s .pre)
@@ -32,9 +29,6 @@ sub-put-unit c = omega (arith, room (c .before .before .before), head (c .before
 part-put-unit-start : tie.Need-part-put-unit-start
 part-put-unit-start c = omega (arith, room (c .before .before .before), head (c .before .before) .long, c .before .before .put-field .ensures .0)
 
-part-put-unit-end : tie.Need-part-put-unit-end
-part-put-unit-end c = search needs
-
 put-unit-requires : tie.Need-put-unit-requires
 put-unit-requires c κs =
     let d = c .before .before .before in
@@ -45,36 +39,24 @@ add-result c =
     let d = c .before .before .before .before .before .before in
     omega (arith, room (d .before), d .put-field .ensures .0, c .before .before .put-unit .ensures .0, c .before .before .before .before .before .before .before .before .before .before .before .before .before .good .0 .0)
 
-same-length : tie.Need-same-length
-same-length c = search needs
-
 returns : tie.Need-returns
 returns c =
     let d = c .before .before .before .before .before .before in let u = c .before .before .put-unit in let a = c .before .before .before .before .before .before .before .before .before .before .before .before .before .args in
     one-put (a .base) (now (a .contents)) (now (a .toks)) (now (a .out)) (c .before .before .before .before .before .before .before .before .before .if1 .taken) (d .put-field .ensures .0) (d .put-field .ensures .1) (u .ensures .0) (u .ensures .1)
 
-put-elements-requires : tie.Need-put-elements-requires
-put-elements-requires c κs = search needs
-
-same-length-2 : tie.Need-same-length-2
-same-length-2 c = search needs
-
-returns-2 : tie.Need-returns-2
-returns-2 c = search needs
-
 pub put-value-spec : {M : Type 1} → statement M
 put-value-spec =
     tie.close
     (tie.spec
-    slice-aggregate-put-field
+    (λ c. search needs)
     put-field-requires
     sub-put-unit
     part-put-unit-start
-    part-put-unit-end
+    (λ c. search needs)
     put-unit-requires
     add-result
-    same-length
+    (λ c. search needs)
     returns
-    put-elements-requires
-    same-length-2
-    returns-2)
+    (λ c κs. search needs)
+    (λ c. search needs)
+    (λ c. search needs))

@@ -10,24 +10,6 @@ use native.Mathlib.Omega.{arith}
 use Rattle.value_fields.proofs.unit_len.Statement.{statement}
 use Rattle.value_fields.proofs.unit_len.Tie as tie
 
-add-t : tie.Need-add-t
-add-t c = search needs
-
-mul-t : tie.Need-mul-t
-mul-t c = search needs
-
-shared-slice-read-t : tie.Need-shared-slice-read-t
-shared-slice-read-t c = search needs
-
-start-requires : tie.Need-start-requires
-start-requires c κs = search needs
-
-end-requires : tie.Need-end-requires
-end-requires c κs = search needs
-
-kind-requires : tie.Need-kind-requires
-kind-requires c κs = search needs
-
 -- what is cut out is the unit's content
 cut : (c : tie.After-end) → let a = c .before .before .before .before .before .args in
     Cuts (now (a .contents)) (getD (now (a .toks)) (a .n + a .n) 0) (c .before .start .result) (c .end .result)
@@ -52,9 +34,6 @@ part-read-word-start c = omega (arith, cut (c .before .before .before))
 
 part-read-word-end : tie.Need-part-read-word-end
 part-read-word-end c = omega (arith, cut (c .before .before .before))
-
-read-word-requires : tie.Need-read-word-requires
-read-word-requires c κs = search needs
 
 unit-len-requires : tie.Need-unit-len-requires
 unit-len-requires c κs =
@@ -81,19 +60,19 @@ pub unit-len-spec : {M : Type 1} → statement M
 unit-len-spec =
     tie.close
     (tie.spec
-    add-t
-    mul-t
-    shared-slice-read-t
-    start-requires
-    end-requires
-    kind-requires
+    (λ c. search needs)
+    (λ c. search needs)
+    (λ c. search needs)
+    (λ c κs. search needs)
+    (λ c κs. search needs)
+    (λ c κs. search needs)
     sub-unit-len
     part-unit-len-start
     part-unit-len-end
     sub-read-word
     part-read-word-start
     part-read-word-end
-    read-word-requires
+    (λ c κs. search needs)
     unit-len-requires
     returns
     sub-result

@@ -20,22 +20,10 @@ abbrev μ-loop : tie.MeasureT-loop
 loop-holds : tie.Need-loop-holds Inv-loop μ-loop
 loop-holds c = let a = c .before .before .args in (units-none (a .base) (now (a .contents)) (now (a .toks)) (a .n), omega arith)
 
-add-unit-len : tie.Need-add-unit-len Inv-loop μ-loop
-add-unit-len c = search needs
-
-unit-len-requires : tie.Need-unit-len-requires Inv-loop μ-loop
-unit-len-requires c κs = search needs
-
 add-total : tie.Need-add-total Inv-loop μ-loop
 add-total c =
     let a = c .before .before .before .before .before .args in let l = c .before .before .loop in
     omega (arith, l .inv .0, units-small (l .i) (a .base) (now (a .contents)) (now (a .toks)) (a .n), c .unit-len .ensures, unit-small (a .base) (now (a .contents)) (now (a .toks)) (a .n + l .i))
-
-add-i : tie.Need-add-i Inv-loop μ-loop
-add-i c = search needs
-
-loop-less : tie.Need-loop-less Inv-loop μ-loop
-loop-less c = search needs
 
 loop-again : tie.Need-loop-again Inv-loop μ-loop
 loop-again c = (search (needs, units-more), search needs)
@@ -50,10 +38,10 @@ units-len-spec =
     Inv-loop
     μ-loop
     loop-holds
-    add-unit-len
-    unit-len-requires
+    (λ c. search needs)
+    (λ c κs. search needs)
     add-total
-    add-i
-    loop-less
+    (λ c. search needs)
+    (λ c. search needs)
     loop-again
     returns)

@@ -34,9 +34,6 @@ returns c = tt
 next-key-requires : tie.Need-next-key-requires Inv-loop μ-loop
 next-key-requires c κs = tt
 
-enum-told : tie.Need-enum-told Inv-loop μ-loop
-enum-told c = search needs
-
 line-requires : tie.Need-line-requires Inv-loop μ-loop
 line-requires c κs = tt
 
@@ -49,17 +46,11 @@ end-requires c κs = tt
 returns-2 : tie.Need-returns-2 Inv-loop μ-loop
 returns-2 c = tt
 
-enum-told-2 : tie.Need-enum-told-2 Inv-loop μ-loop
-enum-told-2 c = search needs
-
 unread-requires : tie.Need-unread-requires Inv-loop μ-loop
 unread-requires c κs = tt
 
 returns-3 : tie.Need-returns-3 Inv-loop μ-loop
 returns-3 c = tt
-
-enum-known-key : tie.Need-enum-known-key Inv-loop μ-loop
-enum-known-key c = search needs
 
 key-requires : tie.Need-key-requires Inv-loop μ-loop
 key-requires c κs = tt
@@ -72,12 +63,6 @@ tell-requires c κs = tt
 
 worse-requires : tie.Need-worse-requires Inv-loop μ-loop
 worse-requires c κs = tt
-
-sub-turns : tie.Need-sub-turns Inv-loop μ-loop
-sub-turns c = search needs
-
-loop-less : tie.Need-loop-less Inv-loop μ-loop
-loop-less c = search needs
 
 loop-again : tie.Need-loop-again Inv-loop μ-loop
 loop-again c = tt
@@ -99,20 +84,20 @@ serve-spec =
     unwritten-requires
     returns
     next-key-requires
-    enum-told
+    (λ c. search needs)
     line-requires
     serve-left-requires
     end-requires
     returns-2
-    enum-told-2
+    (λ c. search needs)
     unread-requires
     returns-3
-    enum-known-key
+    (λ c. search needs)
     key-requires
     line-requires-2
     tell-requires
     worse-requires
-    sub-turns
-    loop-less
+    (λ c. search needs)
+    (λ c. search needs)
     loop-again
     returns-4)

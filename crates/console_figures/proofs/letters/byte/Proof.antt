@@ -5,14 +5,8 @@ use lib.ListN.{List·getD-eq-default}
 use Rattle.console_figures.proofs.letters.byte.Statement.{statement}
 use Rattle.console_figures.proofs.letters.byte.Tie as tie
 
-shared-slice-read-result : tie.Need-shared-slice-read-result
-shared-slice-read-result c = search needs
-
-returns : tie.Need-returns
-returns c = search needs
-
 returns-2 : tie.Need-returns-2
 returns-2 c = search (needs, List·getD-eq-default)
 
 pub byte-spec : {M : Type 1} → statement M
-byte-spec = tie.close (tie.spec shared-slice-read-result returns returns-2)
+byte-spec = tie.close (tie.spec (λ c. search needs) (λ c. search needs) returns-2)

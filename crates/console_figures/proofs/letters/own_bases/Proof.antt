@@ -16,26 +16,8 @@ abbrev μ-loop : tie.MeasureT-loop
 loop-holds : tie.Need-loop-holds Inv-loop μ-loop
 loop-holds c = search (needs, found-none)
 
-keep-base-requires : tie.Need-keep-base-requires Inv-loop μ-loop
-keep-base-requires c κs = search needs
-
-content-length-requires : tie.Need-content-length-requires Inv-loop μ-loop
-content-length-requires c κs = search needs
-
-add-at : tie.Need-add-at Inv-loop μ-loop
-add-at c = search needs
-
-add-at-2 : tie.Need-add-at-2 Inv-loop μ-loop
-add-at-2 c = search needs
-
-loop-less : tie.Need-loop-less Inv-loop μ-loop
-loop-less c = search needs
-
 loop-again : tie.Need-loop-again Inv-loop μ-loop
 loop-again c = search (needs, found-more)
-
-same-length : tie.Need-same-length Inv-loop μ-loop
-same-length c = search needs
 
 returns : tie.Need-returns Inv-loop μ-loop
 returns c = found-end (c .before .loop .inv) (c .loop-test .left)
@@ -47,11 +29,11 @@ own-bases-spec =
     Inv-loop
     μ-loop
     loop-holds
-    keep-base-requires
-    content-length-requires
-    add-at
-    add-at-2
-    loop-less
+    (λ c κs. search needs)
+    (λ c κs. search needs)
+    (λ c. search needs)
+    (λ c. search needs)
+    (λ c. search needs)
     loop-again
-    same-length
+    (λ c. search needs)
     returns)

@@ -7,12 +7,6 @@ use Rattle.console_figures.specs.Numbers.{hexValue}
 use Rattle.console_figures.proofs.numbers.hex_value.Statement.{statement}
 use Rattle.console_figures.proofs.numbers.hex_value.Tie as tie
 
-add-result : tie.Need-add-result
-add-result c = search needs
-
-add-result-2 : tie.Need-add-result-2
-add-result-2 c = search needs
-
 returns : tie.Need-returns
 unfolding hexValue
 returns c = let b = c .before .before .args .b in simp (le-leb 48 b (omega arith), le-leb b 57 (omega arith))
@@ -45,8 +39,8 @@ pub hex-value-spec : {M : Type 1} → statement M
 hex-value-spec =
     tie.close
     (tie.spec
-    add-result
-    add-result-2
+    (λ c. search needs)
+    (λ c. search needs)
     returns
     returns-2
     returns-3

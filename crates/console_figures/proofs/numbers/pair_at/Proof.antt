@@ -8,26 +8,11 @@ use Rattle.console_figures.proofs.NumbersLaws.{hex-most, pair-first, pa
 use Rattle.console_figures.proofs.numbers.pair_at.Statement.{statement}
 use Rattle.console_figures.proofs.numbers.pair_at.Tie as tie
 
-shared-slice-read-hex-value : tie.Need-shared-slice-read-hex-value
-shared-slice-read-hex-value c = search needs
-
-hex-value-requires : tie.Need-hex-value-requires
-hex-value-requires c κs = search needs
-
 returns : tie.Need-returns
 returns c = search (needs, pair-first)
 
-add-next : tie.Need-add-next
-add-next c = search needs
-
 returns-2 : tie.Need-returns-2
 returns-2 c = search (needs, pair-end)
-
-shared-slice-read-hex-value-2 : tie.Need-shared-slice-read-hex-value-2
-shared-slice-read-hex-value-2 c = search needs
-
-hex-value-requires-2 : tie.Need-hex-value-requires-2
-hex-value-requires-2 c κs = search needs
 
 returns-3 : tie.Need-returns-3
 returns-3 c = search (needs, pair-second)
@@ -52,13 +37,13 @@ pub pair-at-spec : {M : Type 1} → statement M
 pair-at-spec =
     tie.close
     (tie.spec
-    shared-slice-read-hex-value
-    hex-value-requires
+    (λ c. search needs)
+    (λ c κs. search needs)
     returns
-    add-next
+    (λ c. search needs)
     returns-2
-    shared-slice-read-hex-value-2
-    hex-value-requires-2
+    (λ c. search needs)
+    (λ c κs. search needs)
     returns-3
     mul-t7
     add-t11

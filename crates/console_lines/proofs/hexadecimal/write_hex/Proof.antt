@@ -15,23 +15,8 @@ abbrev μ-loop : tie.MeasureT-loop
 loop-holds : tie.Need-loop-holds Inv-loop μ-loop
 loop-holds c = tt
 
-sub-write-piece : tie.Need-sub-write-piece Inv-loop μ-loop
-sub-write-piece c = search needs
-
-part-write-piece-start : tie.Need-part-write-piece-start Inv-loop μ-loop
-part-write-piece-start c = search needs
-
-part-write-piece-end : tie.Need-part-write-piece-end Inv-loop μ-loop
-part-write-piece-end c = search needs
-
 write-piece-requires : tie.Need-write-piece-requires Inv-loop μ-loop
 write-piece-requires c κs = tt
-
-add-at : tie.Need-add-at Inv-loop μ-loop
-add-at c = search needs
-
-loop-less : tie.Need-loop-less Inv-loop μ-loop
-loop-less c = search needs
 
 loop-again : tie.Need-loop-again Inv-loop μ-loop
 loop-again c = tt
@@ -49,12 +34,12 @@ write-hex-spec =
     Inv-loop
     μ-loop
     loop-holds
-    sub-write-piece
-    part-write-piece-start
-    part-write-piece-end
+    (λ c. search needs)
+    (λ c. search needs)
+    (λ c. search needs)
     write-piece-requires
-    add-at
-    loop-less
+    (λ c. search needs)
+    (λ c. search needs)
     loop-again
     returns
     returns-2)

@@ -8,26 +8,11 @@ use borrow.Author.Needs.{needs}
 use Rattle.scan.proofs.Cursor.next.Statement.{statement}
 use Rattle.scan.proofs.Cursor.next.Tie as tie
 
-begin-requires : tie.Need-begin-requires
-begin-requires c κs = search needs
-
-enum-known-at : tie.Need-enum-known-at
-enum-known-at c = search needs
-
 begun : (c : tie.After-at) → Begins (now (c .before .before .before .before .before .args .text)) (c .before .before .before .before .before .args .self .at) (c .at .given .0 .0) (c .at .given .0 .1 .0)
 begun c = subst (IsGap (now (c .before .before .before .before .before .args .text)) (c .before .before .before .before .before .args .self .at)) (c .at .given .1) (c .before .before .begin .ensures)
 
 token-requires : tie.Need-token-requires
 token-requires c κs = (search needs, start (begun (c .before .before)), omega (arith, c .before .before .before .before .before .before .before .pre .1, begun (c .before .before) .past))
-
-enum-told : tie.Need-enum-told
-enum-told c = search needs
-
-enum-known-no : tie.Need-enum-known-no
-enum-known-no c = search needs
-
-same-length : tie.Need-same-length
-same-length c = search needs
 
 returns : tie.Need-returns
 returns c = again (now (c .before .before .before .before .before .before .before .before .before .before .args .text)) (c .before .before .before .before .before .at .given .0 .0) (c .before .before .before .before .before .before .before .before .before .before .args .self .at) (c .before .before .token .last .1 .1 .1 .1 .0) (c .before .before .token .result) (begun (c .before .before .before .before .before) .reads) (begun (c .before .before .before .before .before) .past) (c .before .before .token .ensures)
@@ -42,12 +27,12 @@ pub next-spec : {M : Type 1} → statement M
 next-spec =
     tie.close
     (tie.spec
-    begin-requires
-    enum-known-at
+    (λ c κs. search needs)
+    (λ c. search needs)
     token-requires
-    enum-told
-    enum-known-no
-    same-length
+    (λ c. search needs)
+    (λ c. search needs)
+    (λ c. search needs)
     returns
     returns-2
     returns-3)

@@ -15,17 +15,8 @@ abbrev μ-loop : tie.MeasureT-loop
 loop-holds : tie.Need-loop-holds Inv-loop μ-loop
 loop-holds c = tt
 
-shared-slice-read-press : tie.Need-shared-slice-read-press Inv-loop μ-loop
-shared-slice-read-press c = search needs
-
 press-requires : tie.Need-press-requires Inv-loop μ-loop
 press-requires c κs = tt
-
-add-i : tie.Need-add-i Inv-loop μ-loop
-add-i c = search needs
-
-loop-less : tie.Need-loop-less Inv-loop μ-loop
-loop-less c = search needs
 
 loop-again : tie.Need-loop-again Inv-loop μ-loop
 loop-again c = tt
@@ -40,9 +31,9 @@ press-all-spec =
     Inv-loop
     μ-loop
     loop-holds
-    shared-slice-read-press
+    (λ c. search needs)
     press-requires
-    add-i
-    loop-less
+    (λ c. search needs)
+    (λ c. search needs)
     loop-again
     returns)
