@@ -1,7 +1,7 @@
 // Tagged fields of records. Each writer is lent the buffer from its field's start on, and says every byte of it.
 ghost use mathlib.Core.Path.{_≡_};
 ghost use mathlib.Core.List.{[], _∷_, map};
-ghost use Prim.Native.Nat.{_+_, _*_, _≤_, _<_};
+ghost use Prim.Native.Nat.{_+_, _≤_, _<_};
 ghost use lib.ListN.{length};
 ghost use Rattle.laws.specs.Over.{over};
 ghost use Rattle.rules.specs.Characters.{capital};
@@ -9,16 +9,7 @@ ghost use Rattle.rules.specs.Records.{field, fieldBytes};
 ghost use Rattle.fields.specs.Units.{twoBytes, numeralBytes, unitBytes, Skips};
 
 // The bytes of a numeral's content, as its field says them.
-const NUMERAL_CONTENT: u8 = record_walk::NUMERAL_CONTENT as u8;
-
-// What the second byte from the end of a number counts.
-const SECOND: u32 = 256;
-
-// What the third byte from the end of a number counts.
-const THIRD: u32 = 65536;
-
-// What the fourth byte from the end of a number counts.
-const FOURTH: u32 = 16777216;
+const NUMERAL_CONTENT: u16 = record_walk::NUMERAL_CONTENT as u16;
 
 // Writes one byte.
 pub fn put_u8(out: &mut [u8], n: u8)
@@ -62,7 +53,7 @@ fn put_capitals(out: &mut [u8], content: &[u8])
 }
 
 // Writes what stands before a field's content: the tag, and the content's length in two bytes.
-fn put_header(out: &mut [u8], tag: u8, n: u16)
+pub fn put_header(out: &mut [u8], tag: u8, n: u16)
     requires { ⌜ 3 ≤ length (now out) ⌝ }
     ensures { λ r. ⌜ now (out .exit) ≡ over (tag ∷ twoBytes n) (now (out .entry)) ⌝ }
 {
@@ -99,15 +90,10 @@ pub fn put_numeral(out: &mut [u8], letter: u8, fraction: u8, value: u32)
     requires { ⌜ 9 ≤ length (now out) ⌝ }
     ensures { λ r. ⌜ now (out .exit) ≡ over (numeralBytes letter fraction value) (now (out .entry)) ⌝ }
 {
-    out[0] = record_walk::NUMERAL;
-    out[1] = 0;
-    out[2] = NUMERAL_CONTENT;
-    out[3] = letter;
-    out[4] = fraction;
-    out[5] = (value / FOURTH) as u8;
-    out[6] = (value / THIRD % 256) as u8;
-    out[7] = (value / SECOND % 256) as u8;
-    out[8] = (value % 256) as u8;
+    put_header(out, record_walk::NUMERAL, NUMERAL_CONTENT);
+    put_u8(&mut out[record_walk::LETTER..], letter);
+    put_u8(&mut out[record_walk::FRACTION..], fraction);
+    record_walk::put_number(&mut out[record_walk::VALUE..], value);
 }
 
 // How many bytes the field of a word's unit has: none where the word is no unit.

@@ -10,12 +10,6 @@ ghost use Rattle.order_argument.specs.Terms.{isRange, moreTerms, termVal
 // A range without leading units: its own field and its lower end's.
 const SHORTEST_RANGE: usize = record_walk::RANGE_FIELD + record_walk::NUMERAL_FIELD;
 
-// Where in a range's field the upper end stands.
-const UPPER: usize = record_walk::HEADER;
-
-// Where in a range's field the increment stands.
-const INCREMENT: usize = UPPER + record_walk::NUMBER;
-
 // Where in a value an argument is: the element that names it, and which of the element's terms it is, from 0.
 pub struct Argument {
     pub start: usize,
@@ -55,8 +49,12 @@ fn more_terms(element: &[u8]) -> u32
 {
     if is_range(element) {
         let lower = record_walk::number_at(element, element.len() - record_walk::NUMBER);
-        let upper = record_walk::number_at(element, UPPER);
-        return steps(lower, upper, record_walk::number_at(element, INCREMENT));
+        let upper = record_walk::number_at(element, record_walk::UPPER);
+        return steps(
+            lower,
+            upper,
+            record_walk::number_at(element, record_walk::INCREMENT),
+        );
     }
     0
 }
@@ -99,7 +97,7 @@ fn term_value(range: &[u8], term: u32) -> u32
     ensures { λ r. ⌜ r ≡ termValue (now (range .entry)) term ⌝ }
 {
     let lower = record_walk::number_at(range, range.len() - record_walk::NUMBER);
-    lower + term * record_walk::number_at(range, INCREMENT)
+    lower + term * record_walk::number_at(range, record_walk::INCREMENT)
 }
 
 // A range's term as a single element: the leading units as they are, the last unit made new.

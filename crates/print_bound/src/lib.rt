@@ -2,7 +2,6 @@
 // early that most texts fit.
 use record_walk::HEADER;
 use record_walk::LETTER_FIELD;
-use record_walk::NUMBER;
 use record_walk::NUMERAL;
 use record_walk::NUMERAL_FIELD;
 use record_walk::PLACE;
@@ -17,12 +16,6 @@ ghost use Rattle.rules.specs.WellFormed.{wellFormedBytes};
 ghost use Rattle.record_walk.specs.Fields.{lengthAt};
 ghost use Rattle.print_bound.specs.Texts.{textOf};
 ghost use Rattle.print_bound.specs.Bounds.{longerBound, stopBound, anyBound, isPlain, numberBound, endBound, otherAt, Stands};
-
-// Where a range's upper end stands in its field,
-const UPPER: usize = HEADER;
-
-// and its increment.
-const INCREMENT: usize = HEADER + NUMBER;
 
 // The values below this have one decimal digit.
 const TEN: u32 = 10;
@@ -129,8 +122,8 @@ fn other_bound(rec: &[u8], at: usize) -> usize
 {
     let size = size_at(rec, at);
     match rec[at] {
-        RANGE => end_bound(record_walk::number_at(rec, at + UPPER))
-            + end_bound(record_walk::number_at(rec, at + INCREMENT)),
+        RANGE => end_bound(record_walk::number_at(rec, at + record_walk::UPPER))
+            + end_bound(record_walk::number_at(rec, at + record_walk::INCREMENT)),
         STRING => size + (size - HEADER),
         _ => size,
     }

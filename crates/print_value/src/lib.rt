@@ -8,11 +8,6 @@ ghost use Rattle.laws.specs.Over.{over};
 ghost use Rattle.print_value.specs.Begins.{begins, beginsAt};
 ghost use Rattle.print_value.specs.Values.{mostLength, DashedFits, PutDashed, UnitsFit, UnitsLen, PutUnits, shortAt, jointSize, jointText, printedFrom, ArgumentFits, PutArgument, throughText, incrementText, rangeEnd, EndStands, endAt, headLength, ElementFits, ElementLen, PutElement, ValueFits, ValueLen, PutValue};
 
-// Where a range's field has its upper end and its increment.
-const UPPER: usize = record_walk::HEADER;
-
-const INCREMENT: usize = record_walk::HEADER + record_walk::NUMBER;
-
 // The characters before an element in the short form, `&-`; before an upper end, `&&`, and behind a compound argument, `&&-`; before an increment, `++`.
 const SHORT: usize = 2;
 
@@ -290,8 +285,8 @@ fn put_end(out: &mut [u8], rec: &[u8], at: usize, first: usize, last: usize, bas
         base,
         rec[last + record_walk::HEADER],
         first < last,
-        record_walk::number_at(rec, at + UPPER),
-        record_walk::number_at(rec, at + INCREMENT),
+        record_walk::number_at(rec, at + record_walk::UPPER),
+        record_walk::number_at(rec, at + record_walk::INCREMENT),
     )
 }
 
@@ -307,8 +302,8 @@ fn end_len(rec: &[u8], at: usize, first: usize, last: usize, base: u8) -> usize
         base,
         rec[last + record_walk::HEADER],
         first < last,
-        record_walk::number_at(rec, at + UPPER),
-        record_walk::number_at(rec, at + INCREMENT),
+        record_walk::number_at(rec, at + record_walk::UPPER),
+        record_walk::number_at(rec, at + record_walk::INCREMENT),
     )
 }
 

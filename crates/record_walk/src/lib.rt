@@ -3,7 +3,8 @@ ghost use mathlib.Core.Path.{_≡_};
 ghost use Prim.Native.Nat.{_+_, _*_, _≤_};
 ghost use lib.ListN.{length, drop};
 ghost use Rattle.rules.specs.Characters.{between};
-ghost use Rattle.rules.specs.Records.{num4, isUnit, isElement};
+ghost use Rattle.laws.specs.Over.{over};
+ghost use Rattle.rules.specs.Records.{num4, fourBytes, isUnit, isElement};
 ghost use Rattle.record_walk.specs.Fields.{wordLength, fits, fieldAt};
 ghost use Rattle.record_walk.specs.Fronts.{tagOf, headTag};
 ghost use Rattle.record_walk.specs.Runs.{Whole, fieldSize, RunsTo, ElementTo};
@@ -77,6 +78,12 @@ pub const FRACTION: usize = LETTER + 1;
 // and its value.
 pub const VALUE: usize = FRACTION + 1;
 
+// Where in a range's own field its upper end stands,
+pub const UPPER: usize = HEADER;
+
+// and its increment.
+pub const INCREMENT: usize = UPPER + NUMBER;
+
 // What the second byte from the end of a number counts.
 const SECOND: u32 = 256;
 
@@ -105,6 +112,17 @@ pub fn number_at(bytes: &[u8], at: usize) -> u32
     ensures { λ r. ⌜ r ≡ num4 (now (bytes .entry)) at ⌝ }
 {
     number(bytes[at], bytes[1 + at], bytes[2 + at], bytes[3 + at])
+}
+
+// Writes a number of four bytes, the high one first.
+pub fn put_number(out: &mut [u8], n: u32)
+    requires { ⌜ 4 ≤ length (now out) ⌝ }
+    ensures { λ r. ⌜ now (out .exit) ≡ over (fourBytes n) (now (out .entry)) ⌝ }
+{
+    out[0] = (n / FOURTH) as u8;
+    out[1] = (n / THIRD % SECOND) as u8;
+    out[2] = (n / SECOND % SECOND) as u8;
+    out[3] = (n % SECOND) as u8;
 }
 
 // A content's length from its two bytes, the high one first.

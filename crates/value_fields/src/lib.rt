@@ -21,7 +21,7 @@ ghost use Rattle.rules.specs.Records.{fourBytes, field, fieldBytes};
 ghost use Rattle.value_fields.specs.Writes.{Fits, PutValue};
 
 // The bytes of a range's content, as its field says them.
-const RANGE_CONTENT: u8 = record_walk::RANGE_CONTENT as u8;
+const RANGE_CONTENT: u16 = record_walk::RANGE_CONTENT as u16;
 
 // How many bytes the n-th unit's field takes.
 fn unit_len(toks: &[u64], contents: &[u8], base: u8, n: usize) -> usize
@@ -194,17 +194,9 @@ fn put_range(out: &mut [u8], upper: u32, inc: u32)
     requires { ⌜ 11 ≤ length (now out) ⌝ }
     ensures { λ r. ⌜ now (out .exit) ≡ over (fieldBytes (field 6 (fourBytes upper ++ fourBytes inc))) (now (out .entry)) ⌝ }
 {
-    out[0] = record_walk::RANGE;
-    out[1] = 0;
-    out[2] = RANGE_CONTENT;
-    out[3] = (upper / 16777216) as u8;
-    out[4] = (upper / 65536 % 256) as u8;
-    out[5] = (upper / 256 % 256) as u8;
-    out[6] = (upper % 256) as u8;
-    out[7] = (inc / 16777216) as u8;
-    out[8] = (inc / 65536 % 256) as u8;
-    out[9] = (inc / 256 % 256) as u8;
-    out[10] = (inc % 256) as u8;
+    fields::put_header(out, record_walk::RANGE, RANGE_CONTENT);
+    record_walk::put_number(&mut out[record_walk::UPPER..], upper);
+    record_walk::put_number(&mut out[record_walk::INCREMENT..], inc);
 }
 
 // An element's own field. Returns how many bytes it wrote.

@@ -17,12 +17,6 @@ abbrev μ-loop : tie.MeasureT-loop
 loop-holds : tie.Need-loop-holds Inv-loop μ-loop
 loop-holds c = let a = c .args in counting-none (a .base) (a .n) (omega arith)
 
-div-m : tie.Need-div-m Inv-loop μ-loop
-div-m c = omega arith
-
-add-k : tie.Need-add-k Inv-loop μ-loop
-add-k c = omega arith
-
 loop-less : tie.Need-loop-less Inv-loop μ-loop
 loop-less c = div-lt-self (omega arith) (omega arith)
 
@@ -34,4 +28,4 @@ returns c = counting-all (c .loop-test .left) (c .before .loop .inv)
 
 pub digit-count-spec : {M : Type 1} → statement M
 digit-count-spec =
-    tie.close (tie.spec Inv-loop μ-loop loop-holds div-m add-k loop-less loop-again returns)
+    tie.close (tie.spec Inv-loop μ-loop loop-holds (λ c. omega arith) (λ c. omega arith) loop-less loop-again returns)

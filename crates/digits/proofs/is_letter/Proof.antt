@@ -6,9 +6,6 @@ use Rattle.digits.proofs.LetterLaws.{letter-folded}
 use Rattle.digits.proofs.is_letter.Statement.{statement}
 use Rattle.digits.proofs.is_letter.Tie as tie
 
-sub-capital : tie.Need-sub-capital
-sub-capital c = omega arith
-
 returns : tie.Need-returns
 returns c = rw (← letter-folded (c .before .args .b) (omega arith), le-leb _ _ (c .if1 .taken))
 
@@ -16,4 +13,4 @@ returns-2 : tie.Need-returns-2
 returns-2 c = rw (← letter-folded (c .before .args .b) (omega arith), lt-leb _ _ (c .if1 .left))
 
 pub is-letter-spec : {M : Type 1} → statement M
-is-letter-spec = tie.close (tie.spec (λ c. search needs) sub-capital returns returns-2)
+is-letter-spec = tie.close (tie.spec (λ c. search needs) (λ c. omega arith) returns returns-2)

@@ -17,23 +17,11 @@ abbrev μ-loop : tie.MeasureT-loop
 loop-holds : tie.Need-loop-holds Inv-loop μ-loop
 loop-holds c = let a = c .before .args in writing-none (a .k) (a .base) (a .n) (now (a .out)) (c .before .pre .2)
 
-sub-i : tie.Need-sub-i Inv-loop μ-loop
-sub-i c = omega arith
-
-rem-digit-char : tie.Need-rem-digit-char Inv-loop μ-loop
-rem-digit-char c = omega arith
-
 digit-char-requires : tie.Need-digit-char-requires Inv-loop μ-loop
 digit-char-requires c κs = let z : 1 ≤ c .before .before .before .args .base = omega arith in omega (arith, mod-lt (c .before .loop .m) z)
 
 slice-write-out : tie.Need-slice-write-out Inv-loop μ-loop
 slice-write-out c = omega (arith, c .before .before .loop .inv)
-
-div-m : tie.Need-div-m Inv-loop μ-loop
-div-m c = omega arith
-
-loop-less : tie.Need-loop-less Inv-loop μ-loop
-loop-less c = omega arith
 
 loop-again : tie.Need-loop-again Inv-loop μ-loop
 loop-again c = rw (c .digit-char .ensures) (writing-more (c .before .before .loop .i - 1) (omega arith) (c .before .before .loop .inv))
@@ -51,12 +39,12 @@ put-digits-spec =
     Inv-loop
     μ-loop
     loop-holds
-    sub-i
-    rem-digit-char
+    (λ c. omega arith)
+    (λ c. omega arith)
     digit-char-requires
     slice-write-out
-    div-m
-    loop-less
+    (λ c. omega arith)
+    (λ c. omega arith)
     loop-again
     same-length
     returns)

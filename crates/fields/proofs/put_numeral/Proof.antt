@@ -1,57 +1,44 @@
--- Nine stores from the start on are the nine bytes of the field.
+-- What stands before a content, the letter, the fraction digits and the value are written one behind the other.
 use borrow.Author.Needs.{needs}
-use Rattle.fields.specs.Units.{numeralBytes}
-use lib.Seq.{sets-eq}
+use Prim.Native.Nat.{ℕ}
 use denote.Ref.{now}
-use lib.ListN.{length-set}
-use native.Mathlib.Omega.{arith}
+use mathlib.Core.List.{List, [], _∷_, _++_}
+use mathlib.Core.Path.{refl}
+use Rattle.laws.specs.Over.{back-over}
+use Rattle.rules.specs.Records.{fourBytes}
+use Rattle.fields.specs.Units.{numeralBytes, twoBytes}
 use Rattle.fields.proofs.put_numeral.Statement.{statement}
 use Rattle.fields.proofs.put_numeral.Tie as tie
 
-slice-write-out-2 : tie.Need-slice-write-out-2
-slice-write-out-2 c = simp length-set (omega arith)
-
-slice-write-out-3 : tie.Need-slice-write-out-3
-slice-write-out-3 c = simp length-set (omega arith)
-
-slice-write-out-4 : tie.Need-slice-write-out-4
-slice-write-out-4 c = simp length-set (omega arith)
-
-slice-write-out-5 : tie.Need-slice-write-out-5
-slice-write-out-5 c = simp length-set (omega arith)
-
-slice-write-out-6 : tie.Need-slice-write-out-6
-slice-write-out-6 c = simp length-set (omega arith)
-
-slice-write-out-7 : tie.Need-slice-write-out-7
-slice-write-out-7 c = simp length-set (omega arith)
-
-slice-write-out-8 : tie.Need-slice-write-out-8
-slice-write-out-8 c = simp length-set (omega arith)
-
-slice-write-out-9 : tie.Need-slice-write-out-9
-slice-write-out-9 c = simp length-set (omega arith)
-
 returns : tie.Need-returns
 unfolding numeralBytes
-returns c = let a = c .args in sets-eq (numeralBytes (a .letter) (a .fraction) (a .value)) (now (a .out)) 0 (c .pre)
+returns c =
+    let fraction = c .before .before .before .before .before .before in
+    let letter = fraction .before .before .before .before in
+    let head = letter .before .before .before .before in
+    let a = head .before .before .before .args in
+    let old = now (a .out) in
+    let e : List ℕ = 7 ∷ twoBytes 6 in
+    let one = back-over e (a .letter ∷ []) old (head .put-header .ensures) refl (letter .put-u8 .ensures) in
+    let two = back-over (e ++ (a .letter ∷ [])) (a .fraction ∷ []) old one refl (fraction .put-u82 .ensures) in
+    back-over (e ++ (a .letter ∷ a .fraction ∷ [])) (fourBytes (a .value)) old two refl (c .before .before .put-number .ensures)
 
 pub put-numeral-spec : {M : Type 1} → statement M
 put-numeral-spec =
     tie.close
     (tie.spec
+    (λ c κs. search needs)
     (λ c. search needs)
-    slice-write-out-2
-    slice-write-out-3
-    slice-write-out-4
-    slice-write-out-5
     (λ c. search needs)
-    slice-write-out-6
     (λ c. search needs)
-    slice-write-out-7
+    (λ c κs. search needs)
     (λ c. search needs)
-    slice-write-out-8
     (λ c. search needs)
-    slice-write-out-9
+    (λ c. search needs)
+    (λ c κs. search needs)
+    (λ c. search needs)
+    (λ c. search needs)
+    (λ c. search needs)
+    (λ c κs. search needs)
     (λ c. search needs)
     returns)

@@ -11,24 +11,18 @@ Inv-loop toks n contents i₀ i = Unit {0}
 abbrev μ-loop : tie.MeasureT-loop
 μ-loop toks n contents i₀ i = length toks - i
 
-loop-holds : tie.Need-loop-holds Inv-loop μ-loop
-loop-holds c = tt
-
-loop-again : tie.Need-loop-again Inv-loop μ-loop
-loop-again c = tt
-
 pub say-tokens-spec : {M : Type 1} → statement M
 say-tokens-spec =
     tie.close
     (tie.spec
     Inv-loop
     μ-loop
-    loop-holds
+    (λ c. tt)
     (λ c. search needs)
     (λ c. search needs)
     (λ c. search needs)
     (λ c κs. search needs)
     (λ c. search needs)
     (λ c. search needs)
-    loop-again
+    (λ c. tt)
     (λ c. search needs))

@@ -23,9 +23,6 @@ loop-holds c = same-none (now (c .before .args .a)) (now (c .before .args .b)) (
 returns-2 : tie.Need-returns-2 Inv-loop μ-loop
 returns-2 c = same-stop (c .before .before .before .before .loop .inv) (c .before .before .before .loop-test .taken) (c .if2 .taken)
 
-loop-less : tie.Need-loop-less Inv-loop μ-loop
-loop-less c = omega arith
-
 loop-again : tie.Need-loop-again Inv-loop μ-loop
 loop-again c = same-more (c .before .before .before .before .loop .inv) (c .before .before .before .loop-test .taken) (c .if2 .left)
 
@@ -44,6 +41,6 @@ same-spec =
     (λ c. search needs)
     returns-2
     (λ c. search needs)
-    loop-less
+    (λ c. omega arith)
     loop-again
     returns-3)

@@ -13,18 +13,6 @@ Inv-loop «record» count order₀ text₀ k₀ order text k = (length order ≡
 abbrev μ-loop : tie.MeasureT-loop
 μ-loop «record» count order₀ text₀ k₀ order text k = count - k
 
-write-numbered-requires : tie.Need-write-numbered-requires Inv-loop μ-loop
-write-numbered-requires c κs = tt
-
-returns : tie.Need-returns Inv-loop μ-loop
-returns c = tt
-
-returns-2 : tie.Need-returns-2 Inv-loop μ-loop
-returns-2 c = tt
-
-returns-3 : tie.Need-returns-3 Inv-loop μ-loop
-returns-3 c = tt
-
 pub number-orders-spec : {M : Type 1} → statement M
 number-orders-spec =
     tie.close
@@ -32,7 +20,7 @@ number-orders-spec =
     Inv-loop
     μ-loop
     (λ c. search needs)
-    write-numbered-requires
+    (λ c κs. tt)
     (λ c. search needs)
     (λ c. search needs)
     (λ c. search needs)
@@ -40,11 +28,11 @@ number-orders-spec =
     (λ c. search needs)
     (λ c. search needs)
     (λ c. search needs)
-    returns
+    (λ c. tt)
     (λ c. search needs)
     (λ c. search needs)
     (λ c. search needs)
-    returns-2
+    (λ c. tt)
     (λ c. search needs)
     (λ c. search needs)
-    returns-3)
+    (λ c. tt))
