@@ -6,7 +6,7 @@ use native.Mathlib.Omega.{arith}
 use lib.Dec.{eqb, ltb, eqb→eq}
 use lib.ListN.{getD}
 use borrow.Author.Tests.{eq-eqb, le-leb, lt-leb, ne-eqb, ltb-true, ltb-false}
-use Rattle.laws.specs.Cases.{byBool}
+use Rattle.laws.specs.Cases.{byBool, beq-same}
 use Rattle.laws.specs.Ranges.{alike, in-range}
 use Rattle.laws.specs.Table.{at}
 use Rattle.rules.specs.Characters.{byte, isWordChar, isEffector, isPermitted}
@@ -68,17 +68,11 @@ module _ (c : ℕ) (h : 128 ≤ c) where
 
 -- ---- tests on bytes and tests on classes
 
-same : (a b : Bool) → Bool·beq a b ≡ true → a ≡ b
-same true true t = refl
-same true false t = sym t
-same false true t = t
-same false false t = refl
-
 -- two tests that agree on the bytes below 128, by computing, and above
 agree : (f g : ℕ → Bool) → alike (λ k. Bool·beq (f k) (g k)) 0 128 ≡ true → ((c : ℕ) → 128 ≤ c → f c ≡ g c) → (c : ℕ) → f c ≡ g c
 agree f g t h c =
     byBool (ltb c 128)
-    (λ y. same (f c) (g c) (in-range (λ k. Bool·beq (f k) (g k)) 0 128 t c (omega arith) (ltb-true c 128 y)))
+    (λ y. beq-same (f c) (g c) (in-range (λ k. Bool·beq (f k) (g k)) 0 128 t c (omega arith) (ltb-true c 128 y)))
     (λ y. h c (ltb-false c 128 y))
 
 pub is-word : (c : ℕ) → isWordChar c ≡ eqb (classOf c) wordClass

@@ -1,25 +1,28 @@
 -- Places behind places and blocks behind blocks: each turn writes the next part of the table that the rules read, and what is left is read behind it.
-use Prim.Native.Nat.{ℕ, suc, _+_, _-_, _≤_, _<_}
+use Prim.Native.Nat.{ℕ, suc, _+_, _-_, _^_, _≤_, _<_}
 use mathlib.Core.Path.{_≡_, refl, sym, ap, _∙_, subst}
 use mathlib.Core.Bool.{Bool, true, cond}
 use mathlib.Core.List.{List, [], _∷_, _++_, map}
 use native.Mathlib.Numerals.{add-one}
 use native.Mathlib.Omega.{arith}
 use borrow.Author.Tests.{ltb-true, ltb-false}
+use mir.Syntax.{w64}
+use mir.Val.{Fits}
 use lib.Dec.{ltb}
 use lib.ListN.{length, getD, take, drop, length-append}
+use Rattle.rules.proofs.ReadSteps.{places-read, place-read, block-read, blocks-read, segs-read}
 use Rattle.laws.specs.Cases.{byBool}
-use Rattle.laws.specs.Over.{part, back, length-part}
+use Rattle.laws.specs.Over.{over, part, back, length-part}
 use Rattle.rules.specs.Characters.{byte}
-use Rattle.rules.specs.Commands.{Name, placeName, Command, command, seg, split, cut, cutAt, pieces}
-use Rattle.rules.specs.Reading.{Placed, unplaced, PlacedBlock, placedBlock, blockOf, blockSize, kindOf, readPlace, readPlaces, readBlock, readBlocks, runningBlocks, readSegs, readCut}
-use Rattle.rules.specs.Records.{field, fieldBytes, many, placeFields, blockFields, encode}
-use Rattle.rules.specs.Refusals.{ok, mapR}
+use Rattle.rules.specs.Commands.{Name, placeName, Command, seg, split, cut, cutAt}
+use Rattle.rules.specs.Reading.{kindOf, placedBlock, Placed, unplaced, PlacedBlock, blockOf, blockSize, readPlace, readPlaces, readBlock, readBlocks, readSegs, readCut}
+use Rattle.rules.specs.Records.{Field, field, fieldBytes, bytesOf, many, placeFields, blockFields, encode}
+use Rattle.rules.specs.Refusals.{ok}
 use Rattle.rules.specs.Tokens.{comma, colon, semi}
 use Rattle.rules.specs.Units.{isIdentifier}
-use Rattle.rules.proofs.ResultLaws.{ok-inj, ok≢bad, bind-ok, map-ok, guard-ok}
+use Rattle.rules.proofs.FieldLaws.{bytes-append}
+use Rattle.rules.proofs.ResultLaws.{ok-inj, ok≢bad}
 use Rattle.token_table.specs.Table.{placeIn, tokensIn}
-use Rattle.value_fields.proofs.BytesLaws.{bytes-append}
 use Rattle.read_bases.specs.Bases.{basesIn}
 use Rattle.token_table.specs.Parts.{before, placeOr, partsFrom, wordsIn, wordsSize}
 use Rattle.token_table.proofs.FindLaws.{parts-all, parts-next, parts-end, cut-at, cut-none}
@@ -27,7 +30,7 @@ use Rattle.token_table.proofs.WordLaws.{pieces-words, words-bytes}
 use Rattle.read_command.specs.Blocks.{HasKind}
 use Rattle.command_fields.specs.Recorder.{wordBytes, placeBytes, placesBytes, blockBytes, blocksBytes, Wrote, PlaceFits, PutPlace, PlacesFit, PutPlaces, BlockFits, PutBlock, BlocksFit, PutBlocks, SegmentsFit, PutSegments, CommandFits, PutCommand}
 use Rattle.command_fields.proofs.WritingLaws.{Writing, writing-none, writing-more, writing-all, writing-room, writing-long}
-use Rattle.command_fields.proofs.PlaceLaws.{chained, room-behind}
+use Rattle.command_fields.proofs.PlaceLaws.{Pieces, pieces-wrote, wrote-inside, chained, room-behind}
 
 -- ---- the loop over places
 
@@ -60,31 +63,30 @@ module _ (ts cs ls : List ℕ) (k : Bool) (n₀ : ℕ) (old : List ℕ) (i n z :
 
   next-place : {j : ℕ} (e : ℕ) (xs : List Placed) → i ≤ length ts → j ≡ i + before 6 (drop i ts) → PlacesLeft ts cs ls k n₀ old e xs i n z o → NextPlace j e xs
   next-place {j} e xs h f w =
-      let s = seg (tokensIn cs (take (j - i) (drop i ts))) (placeOr (drop j ts) e) in
-      let us = partsFrom comma e cs ts (j + 1) in
-      bind-ok (readPlace k (basesIn ls) n (w .names) s) _ (w .rest) (rw (parts-next comma e cs ts i h f refl) at (w .is))
-      (λ x a g. map-ok (λ xs. x ∷ xs) (readPlaces k (basesIn ls) (suc n) (placeName (unplaced x) ∷ w .names) us) (w .rest) g
-      (λ more a′ r. record {
+      let s = tokensIn cs (take (j - i) (drop i ts)) in
+      let p = placeOr (drop j ts) e in
+      let r = places-read k (basesIn ls) n (w .names) (seg s p) (partsFrom comma e cs ts (j + 1)) (w .rest) (rw (parts-next comma e cs ts i h f refl) at (w .is)) in
+      record {
         names = w .names;
-        x = x;
-        more = more;
-        here = a;
-        behind = rw (add-one n) a′;
-        at = subst (λ (l : List ℕ). Writing (placesBytes xs) l old z o) (sym (ap placesBytes r) ∙ bytes-append (placeFields (unplaced x)) (many placeFields (map unplaced more))) (w .at);
-        count = omega (arith, w .count, ap length r);
-        few = guard-ok (ltb n 32) 15 _ _ x a (λ y _. ltb-true n 32 y);
-      }))
+        x = r .x;
+        more = r .more;
+        here = r .here;
+        behind = rw (add-one n) (r .behind);
+        at = subst (λ (l : List ℕ). Writing (placesBytes xs) l old z o) (sym (ap placesBytes (r .is)) ∙ bytes-append (placeFields (unplaced (r .x))) (many placeFields (map unplaced (r .more)))) (w .at);
+        count = omega (arith, w .count, ap length (r .is));
+        few = place-read k (basesIn ls) n (w .names) s p (r .x) (r .here) .few;
+      }
 
   module _ (v : Placing ts cs ls k n₀ old i n z o) where
     module _ {j : ℕ} (w : PlacesFit ts cs ls k n₀ (length old)) (h : i ≤ length ts) (f : j ≡ i + before 6 (drop i ts)) where
       now′ : NextPlace j (w .end) (w .xs)
       now′ = next-place (w .end) (w .xs) h f (v (w .end) (w .xs) (w .is))
 
-      pub placing-few : n < 32
-      placing-few = now′ .few
+      pub placing-next : Fits w64 (n + 1)
+      placing-next = omega (arith, now′ .few)
 
-      pub placing-room : z ≤ length old
-      placing-room = omega (arith, writing-room _ (now′ .at) (w .fits))
+      pub placing-room : z ≤ length o
+      placing-room = omega (arith, writing-room _ (now′ .at) (w .fits), writing-long _ (now′ .at) (w .fits))
 
       pub placing-fits : PlaceFits (take (j - i) (drop i ts)) cs ls k n (length (part o z))
       placing-fits =
@@ -97,6 +99,12 @@ module _ (ts cs ls : List ℕ) (k : Bool) (n₀ : ℕ) (old : List ℕ) (i n z :
             is = now′ .here;
             fits = omega (arith, writing-room (x ++ m) (now′ .at) (w .fits), writing-long (x ++ m) (now′ .at) (w .fits), length-append x m, length-part o z);
           }
+
+      pub placing-sum : {r : ℕ} {ys : List ℕ} → PutPlace (take (j - i) (drop i ts)) cs ls k n r (part o z) ys → length old < 2 ^ 64 → Fits w64 (z + r)
+      placing-sum p g =
+          let x = placeBytes (now′ .x) in
+          let m = placesBytes (now′ .more) in
+          omega (arith, p (now′ .names) (placeOr (drop j ts) (w .end)) (now′ .x) (now′ .here) .0, writing-room (x ++ m) (now′ .at) (w .fits), length-append x m)
 
     pub placing-long : PlacesFit ts cs ls k n₀ (length old) → length o ≡ length old
     placing-long w = let l = v (w .end) (w .xs) (w .is) in writing-long (placesBytes (l .rest)) (l .at) (w .fits)
@@ -126,15 +134,19 @@ module _ (ts cs ls : List ℕ) (n : ℕ) {k : Bool} (g : HasKind ts k) where
   block-is : (e : ℕ) (b : PlacedBlock) → readBlock (basesIn ls) n (split comma e (tokensIn cs ts)) ≡ ok b → BlockIs ts cs ls k n e b
   block-is e b h =
       let ss = split comma e (tokensIn cs ts) in
-      map-ok (λ ps. placedBlock (kindOf ss) ps) (readPlaces (kindOf ss) (basesIn ls) n [] ss) b h
-      (λ xs a r. record { xs = xs; places = rw (g cs e) a; many′ = ap blockSize (sym r); bytes = rw (← r, g cs e) })
+      let r = block-read (basesIn ls) n ss b h in
+      let own : blockBytes b ≡ blockBytes (placedBlock (kindOf ss) (r .xs)) = ap blockBytes (sym (r .is)) in
+      record { xs = r .xs; places = rw (g cs e) (r .places); many′ = ap blockSize (sym (r .is)); bytes = own ∙ rw (g cs e) }
 
   pub block-room : (room : ℕ) → BlockFits ts cs ls n room → 4 ≤ room
   block-room room w =
       let i = block-is (w .end) (w .b) (w .is) in
       omega (arith, ap length (i .bytes), w .fits, length-append (fieldBytes (field 2 (cond k (byte "N") (byte "P") ∷ []))) (placesBytes (i .xs)))
 
-  module _ (old : List ℕ) {xs : List ℕ} {p : ℕ} (v : Wrote (fieldBytes (field 2 (cond k (byte "N") (byte "P") ∷ []))) p old xs) where
+  module _ (old : List ℕ) {xs : List ℕ} {b p : ℕ} (own : b ≡ cond k (byte "N") (byte "P")) (v : Wrote (fieldBytes (field 2 (b ∷ []))) p old xs) where
+    kind : Wrote (fieldBytes (field 2 (cond k (byte "N") (byte "P") ∷ []))) p old xs
+    kind = (v .0, v .1 ∙ ap (λ (l : ℕ). over (fieldBytes (field 2 (l ∷ []))) old) own)
+
     pub block-places : BlockFits ts cs ls n (length old) → PlacesFit ts cs ls k n (length (part xs p))
     block-places w =
         let i = block-is (w .end) (w .b) (w .is) in
@@ -142,14 +154,14 @@ module _ (ts cs ls : List ℕ) (n : ℕ) {k : Bool} (g : HasKind ts k) where
           end = w .end;
           xs = i .xs;
           is = i .places;
-          fits = room-behind (fieldBytes (field 2 (cond k (byte "N") (byte "P") ∷ []))) (placesBytes (i .xs)) old v (omega (arith, ap length (i .bytes), w .fits));
+          fits = room-behind (fieldBytes (field 2 (cond k (byte "N") (byte "P") ∷ []))) (placesBytes (i .xs)) old kind (omega (arith, ap length (i .bytes), w .fits));
         }
 
     pub block-put : {r m : ℕ} {ys : List ℕ} → PutPlaces ts cs ls k n r m (part xs p) ys → PutBlock ts cs ls n (p + r) m old (back xs p ys)
     block-put w e b h =
         let i = block-is e b h in
         let z = w e (i .xs) (i .places) in
-        (omega (arith, z .0, i .many′), rw (i .bytes) (chained (fieldBytes (field 2 (cond k (byte "N") (byte "P") ∷ []))) (placesBytes (i .xs)) old v (z .1)))
+        (omega (arith, z .0, i .many′), rw (i .bytes) (chained (fieldBytes (field 2 (cond k (byte "N") (byte "P") ∷ []))) (placesBytes (i .xs)) old kind (z .1)))
 
 -- ---- the loop over blocks
 
@@ -179,27 +191,24 @@ module _ (ts cs ls : List ℕ) (i₀ : ℕ) (old : List ℕ) (i n z : ℕ) (o : 
 
   next-block : {j : ℕ} (e : ℕ) (bs : List PlacedBlock) → i ≤ length ts → j ≡ i + before 7 (drop i ts) → BlocksLeft ts cs ls old e bs i n z o → NextBlock j e bs
   next-block {j} e bs h f w =
-      let p = placeOr (drop j ts) e in
-      let us = partsFrom colon e cs ts (j + 1) in
-      guard-ok (ltb (w .m) 8) 15 (w .q) _ (w .rest) (rw (parts-next colon e cs ts i h f refl) at (w .is))
-      (λ y g. bind-ok (readBlock (basesIn ls) n (split comma p (tokensIn cs (take (j - i) (drop i ts))))) (λ b. mapR (λ r. b ∷ r) (readBlocks (basesIn ls) (suc (w .m)) (n + blockSize b) p us)) (w .rest) g
-      (λ b a g2. map-ok (λ r. b ∷ r) (readBlocks (basesIn ls) (suc (w .m)) (n + blockSize b) p us) (w .rest) g2
-      (λ more a′ r. record {
+      let s = tokensIn cs (take (j - i) (drop i ts)) in
+      let r = blocks-read (basesIn ls) (w .m) n (w .q) s (placeOr (drop j ts) e) (partsFrom colon e cs ts (j + 1)) (w .rest) (rw (parts-next colon e cs ts i h f refl) at (w .is)) in
+      record {
         m = suc (w .m);
-        b = b;
-        more = more;
-        here = a;
-        behind = a′;
-        at = subst (λ (l : List ℕ). Writing (blocksBytes bs) l old z o) (sym (ap blocksBytes r) ∙ bytes-append (blockFields (blockOf b)) (many blockFields (map blockOf more))) (w .at);
-      })))
+        b = r .x;
+        more = r .more;
+        here = r .here;
+        behind = r .behind;
+        at = subst (λ (l : List ℕ). Writing (blocksBytes bs) l old z o) (sym (ap blocksBytes (r .is)) ∙ bytes-append (blockFields (blockOf (r .x))) (many blockFields (map blockOf (r .more)))) (w .at);
+      }
 
   module _ (v : Blocking ts cs ls i₀ old i n z o) where
     module _ {j : ℕ} (w : BlocksFit ts cs ls i₀ (length old)) (h : i ≤ length ts) (f : j ≡ i + before 7 (drop i ts)) where
       here′ : NextBlock j (w .end) (w .bs)
       here′ = next-block (w .end) (w .bs) h f (v (w .end) (w .q) (w .bs) (w .is))
 
-      pub blocking-room : z ≤ length old
-      blocking-room = omega (arith, writing-room _ (here′ .at) (w .fits))
+      pub blocking-room : z ≤ length o
+      blocking-room = omega (arith, writing-room _ (here′ .at) (w .fits), writing-long _ (here′ .at) (w .fits))
 
       pub blocking-fits : BlockFits (take (j - i) (drop i ts)) cs ls n (length (part o z))
       blocking-fits =
@@ -211,6 +220,12 @@ module _ (ts cs ls : List ℕ) (i₀ : ℕ) (old : List ℕ) (i n z : ℕ) (o : 
             is = here′ .here;
             fits = omega (arith, writing-room (x ++ m) (here′ .at) (w .fits), writing-long (x ++ m) (here′ .at) (w .fits), length-append x m, length-part o z);
           }
+
+      pub blocking-sum : {r q : ℕ} {ys : List ℕ} → PutBlock (take (j - i) (drop i ts)) cs ls n r q (part o z) ys → length old < 2 ^ 64 → Fits w64 (z + r)
+      blocking-sum p g =
+          let x = blockBytes (here′ .b) in
+          let m = blocksBytes (here′ .more) in
+          omega (arith, p (placeOr (drop j ts) (w .end)) (here′ .b) (here′ .here) .1 .0, writing-room (x ++ m) (here′ .at) (w .fits), length-append x m)
 
     pub blocking-long : BlocksFit ts cs ls i₀ (length old) → length o ≡ length old
     blocking-long w = let l = v (w .end) (w .q) (w .bs) (w .is) in writing-long (blocksBytes (l .rest)) (l .at) (w .fits)
@@ -247,16 +262,16 @@ module _ (ts cs ls : List ℕ) {k : ℕ} (f : k ≡ 0 + before 7 (drop 0 ts)) wh
   segments-are e c h =
       let z : k - 0 ≡ k = omega arith in
       let p = placeOr (drop k ts) e in
-      bind-ok (pieces 8 isIdentifier isIdentifier 2 true (tokensIn cs (take k ts)) p) _ c
-      (rw (← parts-all colon e cs ts, parts-next colon e cs ts 0 (omega arith) f refl, z) at h)
-      (λ ws a h1. bind-ok (readBlocks (basesIn ls) 0 0 p (partsFrom colon e cs ts (k + 1))) _ c h1
-      (λ bs b h2. bind-ok (runningBlocks 1 bs) (λ _. ok (command ws (map blockOf bs))) c h2
-      (λ m d h3. record {
+      let us = tokensIn cs (take k ts) in
+      let r = segs-read (basesIn ls) us p (partsFrom colon e cs ts (k + 1)) c (rw (← parts-all colon e cs ts, parts-next colon e cs ts 0 (omega arith) f refl, z) at h) in
+      let codes : List Field = map (λ w. field 1 w) (r .code) in
+      let own : encode c ≡ bytesOf (codes ++ many blockFields (map blockOf (r .xs))) = ap encode (sym (r .is)) in
+      record {
         q = p;
-        bs = bs;
-        blocks = b;
-        bytes = rw (← (ok-inj h3), bytes-append (map (λ w. field 1 w) ws) (many blockFields (map blockOf bs)), pieces-words cs (take k ts) true 8 isIdentifier isIdentifier 2 p ws a);
-      })))
+        bs = r .xs;
+        blocks = r .blocks;
+        bytes = own ∙ bytes-append codes (many blockFields (map blockOf (r .xs))) ∙ ap (λ (ws : List (List ℕ)). wordBytes 1 ws ++ blocksBytes (r .xs)) (pieces-words cs (take k ts) true 8 isIdentifier isIdentifier 2 p (r .code) (r .pieced));
+      }
 
   module _ (room : ℕ) (w : SegmentsFit ts cs ls room) where
     are : SegmentsAre ts cs ls k (w .end) (w .c)
@@ -270,7 +285,13 @@ module _ (ts cs ls : List ℕ) {k : ℕ} (f : k ≡ 0 + before 7 (drop 0 ts)) wh
         let ws = wordsIn true cs (take k ts) in
         omega (arith, both, length-append (wordBytes 1 ws) (blocksBytes (are .bs)), words-bytes 1 ws)
 
-  module _ (old : List ℕ) {xs : List ℕ} {p : ℕ} (v : Wrote (wordBytes 1 (wordsIn true cs (take k ts))) p old xs) where
+  module _ (old : List ℕ) {xs : List ℕ} {p : ℕ} (v : Pieces 1 (wordsIn true cs (take k ts)) p old xs) where
+    code : Wrote (wordBytes 1 (wordsIn true cs (take k ts))) p old xs
+    code = pieces-wrote 1 (wordsIn true cs (take k ts)) old v
+
+    pub code-past : SegmentsFit ts cs ls (length old) → p ≤ length xs
+    code-past w = wrote-inside (wordBytes 1 (wordsIn true cs (take k ts))) old code
+
     pub segments-blocks : SegmentsFit ts cs ls (length old) → BlocksFit ts cs ls (k + 1) (length (part xs p))
     segments-blocks w =
         let i = are (length old) w in
@@ -279,13 +300,13 @@ module _ (ts cs ls : List ℕ) {k : ℕ} (f : k ≡ 0 + before 7 (drop 0 ts)) wh
           q = i .q;
           bs = i .bs;
           is = i .blocks;
-          fits = room-behind (wordBytes 1 (wordsIn true cs (take k ts))) (blocksBytes (i .bs)) old v (both (length old) w);
+          fits = room-behind (wordBytes 1 (wordsIn true cs (take k ts))) (blocksBytes (i .bs)) old code (both (length old) w);
         }
 
     pub segments-put : {r : ℕ} {ys : List ℕ} → PutBlocks ts cs ls (k + 1) r (part xs p) ys → PutSegments ts cs ls (p + r) old (back xs p ys)
     segments-put w e c h =
         let i = segments-are e c h in
-        rw (i .bytes) (chained (wordBytes 1 (wordsIn true cs (take k ts))) (blocksBytes (i .bs)) old v (w e (i .q) (i .bs) (i .blocks)))
+        rw (i .bytes) (chained (wordBytes 1 (wordsIn true cs (take k ts))) (blocksBytes (i .bs)) old code (w e (i .q) (i .bs) (i .blocks)))
 
 -- ---- the whole
 

@@ -1,25 +1,28 @@
 -- A place that the rules read: its own field, then its name's pieces and its value, which are parts of the table on both sides of `=`.
-use Prim.Native.Nat.{ℕ, _+_, _≤_, _<_}
+use Prim.Native.Nat.{ℕ, _+_, _-_, _*_, _^_, _≤_, _<_}
 use mathlib.Core.Path.{_≡_, sym, ap, _∙_}
-use mathlib.Core.Bool.{Bool, true, false, not, Bool·beq}
+use mathlib.Core.Bool.{Bool, true, false}
 use mathlib.Core.List.{List, [], _∷_, _++_, map}
 use native.Mathlib.Omega.{arith}
 use borrow.Author.Tests.{ltb-true, ltb-false}
+use mir.Syntax.{w64}
+use mir.Val.{Fits as Holds}
 use lib.Dec.{ltb}
 use lib.ListN.{length, getD, take, drop, length-append}
+use Rattle.rules.proofs.ReadSteps.{named-read, place-read}
 use Rattle.laws.specs.Cases.{byBool}
-use Rattle.laws.specs.Over.{over, part, back, back-over, length-part, length-over}
-use Rattle.laws.specs.Lists.{any}
-use Rattle.rules.specs.Commands.{Name, sameName, Element, place, seg, first, Cut, cut, uncut, cutAt, isCut, pieces, isPiece}
+use Rattle.laws.specs.Over.{over, part, back, back-over, part-from}
+use Rattle.rules.specs.Commands.{Name, Element, place, seg, Cut, cut, uncut, cutAt, isPiece}
 use Rattle.rules.specs.Groups.{readValue}
 use Rattle.rules.specs.Reading.{Placed, placed, readPosition, readNamed, readOfKind, readPlace}
-use Rattle.rules.specs.Records.{field, fieldBytes, bytesOf, many, elementFields}
+use Rattle.rules.specs.Records.{Field, field, fieldBytes, bytesOf, many, elementFields}
 use Rattle.rules.specs.Refusals.{ok}
 use Rattle.rules.specs.Tokens.{Token, posOf, equals}
 use Rattle.rules.specs.Units.{Base, plain, rD, letter, isIdentifier}
-use Rattle.rules.proofs.ResultLaws.{ok-inj, ok≢bad, bind-ok, map-ok, guard-ok}
+use Rattle.rules.proofs.FieldLaws.{bytes-append}
+use Rattle.rules.proofs.ResultLaws.{ok-inj, ok≢bad, map-ok}
 use Rattle.token_table.specs.Table.{placeIn, tokensIn}
-use Rattle.value_fields.proofs.BytesLaws.{bytes-append}
+use Rattle.value_fields.proofs.WriteLaws.{second-room}
 use Rattle.value_fields.specs.Writes.{Fits, PutValue}
 use Rattle.read_bases.specs.Bases.{basesIn, baseIn}
 use Rattle.token_table.specs.Parts.{before, wordsIn, wordsSize}
@@ -31,22 +34,25 @@ abbrev pub valueBytes : List Element → List ℕ
 valueBytes v = bytesOf (many elementFields v)
 
 -- two parts, the second written by a writer that was lent the buffer behind the first
-pub chained : (a b old : List ℕ) {xs ys : List ℕ} {p r : ℕ} → Wrote a p old xs → Wrote b r (part xs p) ys → Wrote (a ++ b) (p + r) old (back xs p ys)
-chained a b old v w = (omega (arith, length-append a b, v .0, w .0), back-over a b old (v .1) (sym (v .0)) (w .1))
+module _ (a b old : List ℕ) {xs : List ℕ} {p : ℕ} (v : Wrote a p old xs) where
+  pub chained : {ys : List ℕ} {r : ℕ} → Wrote b r (part xs p) ys → Wrote (a ++ b) (p + r) old (back xs p ys)
+  chained w = (omega (arith, length-append a b, v .0, w .0), back-over a b old (v .1) (sym (v .0)) (w .1))
+
+  pub room-behind : length (a ++ b) ≤ length old → length b ≤ length (part xs p)
+  room-behind h = let l = length-append a b in second-room a b old (v .0) (v .1) (omega arith)
 
 -- what was written ends inside the buffer
 pub wrote-inside : (a old : List ℕ) {xs : List ℕ} {p : ℕ} → Wrote a p old xs → p ≤ length xs
 wrote-inside a old v = omega (arith, v .0, ap length (v .1), length-append a (drop (length a) old))
 
--- the room behind what was written
-pub room-behind : (a b old : List ℕ) {xs : List ℕ} {p : ℕ} → Wrote a p old xs → length (a ++ b) ≤ length old → length b ≤ length (part xs p)
-room-behind a b old {xs} {p} v h =
-    let l = length-append a b in
-    let z : length xs ≡ length old = ap length (v .1) ∙ length-over a old (omega arith) in
-    omega (arith, length-part xs p, v .0)
+pub byte-inside : (t b : ℕ) (old : List ℕ) {xs : List ℕ} {p : ℕ} → p ≡ 4 → xs ≡ over (fieldBytes (field t (b ∷ []))) old → p ≤ length xs
+byte-inside t b old e q = wrote-inside (fieldBytes (field t (b ∷ []))) old (e, q)
 
--- the pieces of a code or a name, written
-pub pieces-wrote : (t : ℕ) (ws : List (List ℕ)) (old : List ℕ) {xs : List ℕ} {p : ℕ} → (p ≡ wordsSize ws) × (xs ≡ over (wordBytes t ws) old) → Wrote (wordBytes t ws) p old xs
+-- the pieces of a code or a name, as their writer leaves them
+abbrev pub Pieces : ℕ → List (List ℕ) → ℕ → List ℕ → List ℕ → Type 0
+Pieces t ws p old xs = (p ≡ wordsSize ws) × (xs ≡ over (wordBytes t ws) old)
+
+pub pieces-wrote : (t : ℕ) (ws : List (List ℕ)) (old : List ℕ) {xs : List ℕ} {p : ℕ} → Pieces t ws p old xs → Wrote (wordBytes t ws) p old xs
 pieces-wrote t ws old w = (w .0 ∙ sym (words-bytes t ws), w .1)
 
 -- ---- name and value
@@ -64,16 +70,16 @@ named-is ts cs b ns e x {k} f h =
     byBool (ltb k (length ts))
     (λ y.
     let l = ltb-true k (length ts) y in
-    let us = drop (k + 1) ts in
-    bind-ok (pieces 10 isIdentifier isPiece 3 true (tokensIn cs (take k ts)) (placeIn (getD ts k 0))) _ x (rw (cut-at equals cs ts f l) at h)
-    (λ ws a h1. guard-ok (not (any (sameName ws) ns)) 21 (first (tokensIn cs (take k ts)) (placeIn (getD ts k 0))) _ x h1
-    (λ _ h2. map-ok (λ v. placed (first (tokensIn cs us) e) (place b ws v)) (readValue b (tokensIn cs us) e) x h2
-    (λ v c r. record {
+    let q = placeIn (getD ts k 0) in
+    let r = named-read b ns (tokensIn cs (take k ts)) q (tokensIn cs (drop (k + 1) ts)) e x (rw (cut-at equals cs ts f l) at h) in
+    let names : List Field = map (λ w. field 4 w) (r .name) in
+    let own : innerBytes x ≡ bytesOf (names ++ many elementFields (r .v)) = ap innerBytes (sym (r .is)) in
+    record {
       inside = l;
-      v = v;
-      value = c;
-      bytes = rw (← r, bytes-append (map (λ w. field 4 w) ws) (many elementFields v), pieces-words cs (take k ts) true 10 isIdentifier isPiece 3 (placeIn (getD ts k 0)) ws a);
-    }))))
+      v = r .v;
+      value = r .value;
+      bytes = own ∙ bytes-append names (many elementFields (r .v)) ∙ ap (λ (ws : List (List ℕ)). wordBytes 4 ws ++ valueBytes (r .v)) (pieces-words cs (take k ts) true 10 isIdentifier isPiece 3 q (r .name) (r .pieced));
+    })
     (λ y. ok≢bad (rw (cut-none equals cs ts f (ltb-false k (length ts) y)) at h))
 
 module _ (ts cs : List ℕ) (l k : ℕ) (f : k ≡ 0 + before 8 (drop 0 ts)) where
@@ -84,6 +90,15 @@ module _ (ts cs : List ℕ) (l k : ℕ) (f : k ≡ 0 + before 8 (drop 0 ts)) whe
     pub name-inside : k < length ts
     name-inside = is .inside
 
+    pub name-behind : k + 1 ≤ length ts
+    name-behind = omega (arith, name-inside)
+
+    pub name-next : length ts * 8 < 2 ^ 63 → Holds w64 (k + 1)
+    name-next g = omega (arith, name-inside)
+
+    pub name-scaled : length ts * 8 < 2 ^ 63 → Holds w64 ((k + 1) * 8)
+    name-scaled g = omega (arith, name-inside)
+
     both : length (wordBytes 4 (wordsIn true cs (take k ts)) ++ valueBytes (is .v)) ≤ room
     both = omega (arith, ap length (is .bytes), w .fits)
 
@@ -92,30 +107,32 @@ module _ (ts cs : List ℕ) (l k : ℕ) (f : k ≡ 0 + before 8 (drop 0 ts)) whe
         let ws = wordsIn true cs (take k ts) in
         omega (arith, both, length-append (wordBytes 4 ws) (valueBytes (is .v)), words-bytes 4 ws)
 
-  pub name-value : (old : List ℕ) (w : NameFits ts cs l (length old)) {xs : List ℕ} {p : ℕ} → Wrote (wordBytes 4 (wordsIn true cs (take k ts))) p old xs
-      → Fits (drop (k + 1) ts) cs l (length (part xs p))
-  name-value old w v =
-      let i = is (length old) w in
-      record {
-        value = record { base = w .base; own = w .own; end = w .end; es = i .v; is = i .value };
-        room = room-behind (wordBytes 4 (wordsIn true cs (take k ts))) (valueBytes (i .v)) old v (both (length old) w);
-      }
+  module _ (old : List ℕ) {xs : List ℕ} {p : ℕ} (v : Pieces 4 (wordsIn true cs (take k ts)) p old xs) where
+    name : Wrote (wordBytes 4 (wordsIn true cs (take k ts))) p old xs
+    name = pieces-wrote 4 (wordsIn true cs (take k ts)) old v
 
-  pub name-put : (old : List ℕ) {xs ys : List ℕ} {p r : ℕ} → Wrote (wordBytes 4 (wordsIn true cs (take k ts))) p old xs
-      → PutValue (drop (k + 1) ts) cs l r (part xs p) ys → PutName ts cs l (p + r) old (back xs p ys)
-  name-put old {xs} {ys} {p} {r} v w b ns e x own h =
-      let i = named-is ts cs b ns e x f h in
-      let z = chained (wordBytes 4 (wordsIn true cs (take k ts))) (valueBytes (i .v)) old v (w b e (i .v) own (i .value)) in
-      rw (i .bytes) z
+    pub name-past : NameFits ts cs l (length old) → p ≤ length xs
+    name-past w = wrote-inside (wordBytes 4 (wordsIn true cs (take k ts))) old name
+
+    pub name-value : NameFits ts cs l (length old) → Fits (take (length ts - (k + 1)) (drop (k + 1) ts)) cs l (length (part xs p))
+    name-value w =
+        let i = is (length old) w in
+        rw (part-from ts (k + 1)) record {
+          value = record { base = w .base; own = w .own; end = w .end; es = i .v; is = i .value };
+          room = room-behind (wordBytes 4 (wordsIn true cs (take k ts))) (valueBytes (i .v)) old name (both (length old) w);
+        }
+
+    pub name-put : {ys : List ℕ} {r : ℕ} → PutValue (take (length ts - (k + 1)) (drop (k + 1) ts)) cs l r (part xs p) ys → PutName ts cs l (p + r) old (back xs p ys)
+    name-put {ys} {r} w b ns e x own h =
+        let i = named-is ts cs b ns e x f h in
+        let u : PutValue (drop (k + 1) ts) cs l r (part xs p) ys = rw (part-from ts (k + 1)) at w in
+        rw (i .bytes) (chained (wordBytes 4 (wordsIn true cs (take k ts))) (valueBytes (i .v)) old name (u b e (i .v) own (i .value)))
 
 -- ---- a place
 
 named-own : (b : Base) (ns : List Name) (c : Cut) (e : ℕ) (x : Placed) → readNamed b ns c e ≡ ok x → placeBytes x ≡ fieldBytes (field 3 (letter b ∷ [])) ++ innerBytes x
 named-own b ns uncut e x h = ok≢bad h
-named-own b ns (cut nm q us) e x h =
-    bind-ok (pieces 10 isIdentifier isPiece 3 true nm q) _ x h
-    (λ ws a h1. guard-ok (not (any (sameName ws) ns)) 21 (first nm q) _ x h1
-    (λ _ h2. map-ok (λ v. placed (first us e) (place b ws v)) (readValue b us e) x h2 (λ v c r. rw (← r))))
+named-own b ns (cut nm q us) e x h = rw (← named-read b ns nm q us e x h .is)
 
 position-own : (b : Base) (ts : List Token) (e : ℕ) (x : Placed) → readPosition b ts e ≡ ok x → placeBytes x ≡ fieldBytes (field 3 (letter b ∷ [])) ++ innerBytes x
 position-own b [] e x h = rw (← (ok-inj h))
@@ -128,8 +145,7 @@ own-field false b ns ts e x h = position-own b ts e x h
 
 of-kind : (k : Bool) (bs : List Base) (n : ℕ) (ns : List Name) (ts : List Token) (e : ℕ) (x : Placed) → readPlace k bs n ns (seg ts e) ≡ ok x
     → readOfKind k (getD bs n (plain rD)) ns ts e ≡ ok x
-of-kind k bs n ns ts e x h =
-    guard-ok (ltb n 32) 15 (first ts e) _ x h (λ y h1. guard-ok (Bool·beq k (isCut (cutAt equals ts))) 9 (first ts e) _ x h1 (λ z h2. h2))
+of-kind k bs n ns ts e x h = place-read k bs n ns ts e x h .read
 
 -- a value by position
 record PositionIs (ts cs : List ℕ) (b : Base) (e : ℕ) (x : Placed) : Type 0 where

@@ -1,14 +1,17 @@
 -- Writing part by part: what is done stands over the buffer's start, and what is done and what is left is the whole; the next part goes behind.
-use Prim.Native.Nat.{ℕ, _+_, _≤_, _<_}
+use Prim.Native.Nat.{ℕ, _+_, _-_, _^_, _≤_, _<_}
 use mathlib.Core.Path.{_≡_, refl, sym, ap, _∙_}
 use mathlib.Core.Bool.{true}
 use mathlib.Core.List.{List, [], _++_, append-assoc, append-nil}
 use native.Mathlib.Omega.{arith}
-use lib.ListN.{length, getD, drop, length-append, drop-of-length-le}
-use Rattle.laws.specs.Over.{over, part, back, back-over, length-over}
+use mir.Syntax.{w64}
+use mir.Val.{Fits}
+use lib.ListN.{length, getD, take, drop, length-append, drop-of-length-le}
+use Rattle.laws.specs.Over.{over, part, back, back-over, length-over, length-part}
 use Rattle.rules.specs.Records.{field, fieldBytes}
-use Rattle.token_table.specs.Table.{contentIn}
+use Rattle.token_table.specs.Table.{contentIn, startIn, endIn}
 use Rattle.token_table.specs.Parts.{wordsIn, wordsSize}
+use Rattle.token_table.proofs.ContentLaws.{cut-is}
 use Rattle.token_table.proofs.WordLaws.{words-next, words-bytes}
 use Rattle.command_fields.specs.Recorder.{wordBytes, Wrote}
 
@@ -61,19 +64,46 @@ module _ (t : ℕ) (cs ts old : List ℕ) (i k : ℕ) (o : List ℕ) (w : Piecin
   pub piecing-long : wordsSize (wordsIn true cs ts) ≤ length old → length o ≡ length old
   piecing-long r = writing-long (wordBytes t (wordsIn true cs (drop i ts))) w (omega (arith, words-bytes t (wordsIn true cs ts)))
 
-  pub piecing-room : i < length ts → wordsSize (wordsIn true cs ts) ≤ length old → k + (3 + length (contentIn cs (getD ts i 0))) ≤ length old
-  piecing-room h r =
-      let f = fieldBytes (field t (contentIn cs (getD ts i 0))) in
-      let m = wordBytes t (wordsIn true cs (drop (i + 2) ts)) in
-      omega (arith, writing-room (f ++ m) (here h) (omega (arith, words-bytes t (wordsIn true cs ts))), length-append f m)
+  module _ (h : i < length ts) where
+    module _ (r : wordsSize (wordsIn true cs ts) ≤ length old) where
+      next-room : k + (3 + length (contentIn cs (getD ts i 0))) ≤ length o
+      next-room =
+          let f = fieldBytes (field t (contentIn cs (getD ts i 0))) in
+          let m = wordBytes t (wordsIn true cs (drop (i + 2) ts)) in
+          omega (arith, writing-room (f ++ m) (here h) (omega (arith, words-bytes t (wordsIn true cs ts))), length-append f m, piecing-long r)
 
-  pub piecing-more : {n : ℕ} {ys : List ℕ} → i < length ts → n ≡ 3 + length (contentIn cs (getD ts i 0)) → ys ≡ over (fieldBytes (field t (contentIn cs (getD ts i 0)))) (part o k)
-      → Piecing t cs ts old (i + 2) (k + n) (back o k ys)
-  piecing-more h p q = writing-more (fieldBytes (field t (contentIn cs (getD ts i 0)))) (wordBytes t (wordsIn true cs (drop (i + 2) ts))) (here h) (omega arith, q)
+      pub piecing-inside : k ≤ length o
+      piecing-inside = omega (arith, next-room)
 
-  pub piecing-all : length ts ≤ i → (k ≡ wordsSize (wordsIn true cs ts)) × (o ≡ over (wordBytes t (wordsIn true cs ts)) old)
-  unfolding wordsIn
-  piecing-all h =
-      let v : Writing (wordBytes t (wordsIn true cs ts)) [] old k o = rw (drop-of-length-le ts h) at w in
-      let z = writing-all v in
-      (z .0 ∙ words-bytes t (wordsIn true cs ts), z .1)
+      pub piecing-room : 3 + length (contentIn cs (getD ts i 0)) ≤ length (part o k)
+      piecing-room = omega (arith, next-room, length-part o k)
+
+      pub piecing-sum : {n : ℕ} → n ≡ 3 + length (contentIn cs (getD ts i 0)) → length old < 2 ^ 64 → Fits w64 (k + n)
+      piecing-sum e g = omega (arith, next-room, piecing-long r)
+
+    pub piecing-more : {n : ℕ} {ys : List ℕ} → n ≡ 3 + length (contentIn cs (getD ts i 0)) → ys ≡ over (fieldBytes (field t (contentIn cs (getD ts i 0)))) (part o k)
+        → Piecing t cs ts old (i + 2) (k + n) (back o k ys)
+    piecing-more p q = writing-more (fieldBytes (field t (contentIn cs (getD ts i 0)))) (wordBytes t (wordsIn true cs (drop (i + 2) ts))) (here h) (omega arith, q)
+
+  module _ (h : length ts ≤ i) where
+    all : Wrote (wordBytes t (wordsIn true cs ts)) k old o
+    unfolding wordsIn
+    all = writing-all (rw (drop-of-length-le ts h) at w)
+
+    pub piecing-size : k ≡ wordsSize (wordsIn true cs ts)
+    piecing-size = all .0 ∙ words-bytes t (wordsIn true cs ts)
+
+    pub piecing-over : o ≡ over (wordBytes t (wordsIn true cs ts)) old
+    piecing-over = all .1
+
+-- ---- a field whose content is a token's
+
+module _ (cs : List ℕ) (t : ℕ) {from to : ℕ} (f : from ≡ startIn t (length cs)) (o : to ≡ endIn t (length cs)) where
+  pub token-room : (n : ℕ) → 3 + length (contentIn cs t) ≤ n → 3 + length (take (to - from) (drop from cs)) ≤ n
+  token-room n h = rw (cut-is cs t f o) h
+
+  pub token-size : {r : ℕ} → r ≡ 3 + length (take (to - from) (drop from cs)) → r ≡ 3 + length (contentIn cs t)
+  token-size q = rw (cut-is cs t f o) at q
+
+  pub token-over : (tag : ℕ) (old : List ℕ) {new : List ℕ} → new ≡ over (fieldBytes (field tag (take (to - from) (drop from cs)))) old → new ≡ over (fieldBytes (field tag (contentIn cs t))) old
+  token-over tag old q = q ∙ ap (λ (w : List ℕ). over (fieldBytes (field tag w)) old) (cut-is cs t f o)

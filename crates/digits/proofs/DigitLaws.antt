@@ -10,7 +10,7 @@ use lib.Dec.{ltb}
 use Rattle.laws.specs.Cases.{byBool}
 use Rattle.laws.specs.Over.{over, over-last}
 use Rattle.rules.specs.Printing.{digits, digitsOf, digitChar, mostDigits}
-use Rattle.rules.proofs.UnitBack.{digits-low, digits-high, of-length}
+use Rattle.rules.proofs.UnitBack.{digits-low, digits-high, of-length, digits-most}
 use Rattle.digits.specs.Digits.{whole, fixed}
 
 -- ---- the loop that counts
@@ -60,14 +60,6 @@ counting-all {b} {n} {k} {m} {f} h c = go f (c .some) (c .sum)
 
 -- ---- all digits are at most 32, and the last so many
 
-digits-most : (k b n : ℕ) → length (digits k b n) ≤ k
-unfolding digits
-digits-most zero b n = omega arith
-digits-most (suc k) b n =
-    byBool (ltb n b)
-    (λ y. rw (digits-low k b n y) (omega arith))
-    (λ y. rw (digits-high k b n y, length-append) (omega (arith, digits-most k b (n / b))))
-
 pub whole-one : (b n : ℕ) → n < b → whole b n ≡ digitChar n ∷ []
 unfolding whole
 whole-one b n h = digits-low 31 b n (lt-ltb n b h)
@@ -101,9 +93,6 @@ pub record Writing (e old : List ℕ) (b i m : ℕ) (o : List ℕ) : Type 0 wher
   pub is : over (fixed i b m) o ≡ over e old
   pub long : length o ≡ length old
   pub low : i ≤ length old
-
-pub writing-none : (k b n : ℕ) (old : List ℕ) → k ≤ length old → Writing (fixed k b n) old b k n old
-writing-none k b n old h = record { is = refl; long = refl; low = h }
 
 pub writing-more : {e old o : List ℕ} {b i m : ℕ} (j : ℕ) → i ≡ suc j → Writing e old b i m o → Writing e old b j (m / b) (set o j (digitChar (m % b)))
 unfolding fixed

@@ -1,12 +1,12 @@
 -- A byte is D, H, O, B or none of them: what computes at each of the four holds at every letter of a base that has values.
 use mathlib.Core.Path.{_≡_, refl, sym, subst}
-use mathlib.Core.Bool.{Bool, true, false, Bool·beq, false≢true}
+use mathlib.Core.Bool.{true, false, Bool·beq, false≢true}
 use mathlib.Core.Option.{none, some}
 use Prim.Native.Nat.{ℕ, _-_, _*_, _/_, _%_, _≤_, _<_}
 use native.Mathlib.Omega.{arith}
 use lib.Dec.{eqb}
 use borrow.Author.Tests.{eqb-true}
-use Rattle.laws.specs.Cases.{byBool}
+use Rattle.laws.specs.Cases.{beq-same, byBool}
 use Rattle.laws.specs.Ranges.{in-range}
 use Rattle.rules.specs.Characters.{byte, between, isLetter}
 use Rattle.rules.specs.Units.{Radix, rD, rH, rO, rB, Base, plain, keys, letter, radixLetter, baseOf, radixAt, baseAt}
@@ -73,13 +73,7 @@ no-base l =
 
 -- ---- letters
 
-same : (a b : Bool) → Bool·beq a b ≡ true → a ≡ b
-same true true t = refl
-same true false t = sym t
-same false true t = t
-same false false t = refl
-
 -- a byte is a letter where it is a capital without what a small letter stands behind its capital: computed byte by byte
 pub letter-folded : (b : ℕ) → b < 256 → between (byte "A") (byte "Z") (b - b / 32 % 2 * 32) ≡ isLetter b
 letter-folded b h =
-    same _ _ (in-range (λ x. Bool·beq (between (byte "A") (byte "Z") (x - x / 32 % 2 * 32)) (isLetter x)) 0 256 refl b (omega arith) (omega arith))
+    beq-same _ _ (in-range (λ x. Bool·beq (between (byte "A") (byte "Z") (x - x / 32 % 2 * 32)) (isLetter x)) 0 256 refl b (omega arith) (omega arith))

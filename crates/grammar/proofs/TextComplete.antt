@@ -4,28 +4,21 @@ use mathlib.Core.Path.{_≡_, refl, sym, ap, ap₂, _∙_, subst}
 use mathlib.Core.Bool.{Bool, true, false, _&&_, _||_, not, false≢true}
 use mathlib.Core.List.{List, [], _∷_, _++_, map, reverse, reverseAux}
 use native.Mathlib.Omega.{arith}
-use lib.Dec.{leb, eqb}
+use lib.Dec.{eqb}
 use lib.ListN.{length}
 use borrow.Author.Tests.{eqb-true, eqb-false, leb-true, le-leb}
-use Rattle.laws.specs.Cases.{byBool, and-l, and-r}
+use Rattle.laws.specs.Cases.{byBool, or-false, conjuncts}
 use Rattle.laws.specs.Lists.{all}
-use Rattle.rules.specs.Characters.{between, isWordChar, isEffector, isPermitted}
+use Rattle.rules.specs.Characters.{between, isWordChar, isEffector}
 use Rattle.rules.specs.Printing.{sepText}
 use Rattle.rules.specs.Refusals.{Res, ok}
-use Rattle.rules.specs.Tokens.{lexOf, Sep, ampamp-, ampamp, amp-, amp, plusplus, dash, comma, colon, equals, semi, Lex, word, str, sep, Token, at, State, idle, inWord, inPlus, oneAmp, twoAmp, slash, comment, star, inStr, quote, wordChars, wordMost, wordToken, strToken, flush, andThen, stay, emit, end, step, next, run, firstOff, scan}
+use Rattle.rules.specs.Tokens.{lexOf, Sep, ampamp-, ampamp, amp-, amp, plusplus, dash, comma, colon, equals, semi, Lex, word, str, sep, Token, at, State, idle, inWord, inPlus, oneAmp, twoAmp, comment, star, inStr, quote, wordChars, wordMost, wordToken, strToken, flush, andThen, stay, emit, end, step, next, run, scan}
 use Rattle.rules.specs.Units.{runOf}
+use Rattle.rules.proofs.RoundTrip.{none-off}
 use Rattle.rules.proofs.ScanBack.{ended, stepW-end, stepP-end, then-assoc, then-nil}
 use Rattle.grammar.specs.Grammar.{inWords, double, Mark, char, remark, quoted, begins, Comment, close, inside, Quoted, mark, isPlain, Shows, done, effector, visible, comment as comment′, string, nextIs, longer, Ends, other, plus, Tokens, separator, letters, Spells}
 use Rattle.grammar.proofs.WordExact.{are-chars, one-plus}
 use Rattle.grammar.proofs.TextSound.{goesOn}
-
-or-l : (a b : Bool) → a || b ≡ false → a ≡ false
-or-l true b h = h
-or-l false b h = refl
-
-or-r : (a b : Bool) → a || b ≡ false → b ≡ false
-or-r true b h = absurd (false≢true (sym h))
-or-r false b h = h
 
 -- ---- format effectors are passed over
 
@@ -39,8 +32,8 @@ eff-cases P d h p9 p10 p11 p12 p13 p32 =
     (λ n3. byBool (eqb d 12) (λ e. subst P (sym (eqb-true d 12 e)) p12)
     (λ n4. byBool (eqb d 13) (λ e. subst P (sym (eqb-true d 13 e)) p13)
     (λ n5.
-    let lo : 9 ≤ d = leb-true 9 d (and-l (leb 9 d) (leb d 13) y) in
-    let hi : d ≤ 13 = leb-true d 13 (and-r (leb 9 d) (leb d 13) y) in
+    let lo : 9 ≤ d = leb-true 9 d (search conjuncts) in
+    let hi : d ≤ 13 = leb-true d 13 (search conjuncts) in
     absurd (omega (arith, eqb-false d 9 n1, eqb-false d 10 n2, eqb-false d 11 n3, eqb-false d 12 n4, eqb-false d 13 n5))))))))
     (λ n. subst P (sym (eqb-true d 32 (rw n at h))) p32)
 
@@ -50,39 +43,33 @@ plain-not c h =
     (λ y. absurd (eff-cases (λ d. isPlain d ≡ true → ⊥) c y (λ k. false≢true k) (λ k. false≢true k) (λ k. false≢true k) (λ k. false≢true k) (λ k. false≢true k) (λ k. false≢true k) h))
     (λ y. y)
 
-abbrev outer : State → Bool
-outer idle = true
-outer (inWord q w) = true
-outer (inPlus q w r) = true
-outer (oneAmp q) = true
-outer (twoAmp q) = true
-outer (slash q) = false
-outer (comment q) = false
-outer (star q) = false
-outer (inStr q w) = false
-outer (quote q w) = false
+-- the states outside comments and strings: those that have read something, and `idle`
+data Busy : State → Type 0 where
+  someWord : {q : ℕ} {w : List ℕ} → Busy (inWord q w)
+  somePlus : {q : ℕ} {w : List ℕ} {r : ℕ} → Busy (inPlus q w r)
+  someAmp : {q : ℕ} → Busy (oneAmp q)
+  someAmps : {q : ℕ} → Busy (twoAmp q)
 
-stays : (s : State) → outer s ≡ true → (p d : ℕ) → isEffector d ≡ true → step s p d ≡ stay s
-stays idle o p d h = eff-cases (λ d. step idle p d ≡ stay idle) d h refl refl refl refl refl refl
-stays (inWord q w) o p d h = eff-cases (λ d. step (inWord q w) p d ≡ stay (inWord q w)) d h refl refl refl refl refl refl
-stays (inPlus q w r) o p d h = eff-cases (λ d. step (inPlus q w r) p d ≡ stay (inPlus q w r)) d h refl refl refl refl refl refl
-stays (oneAmp q) o p d h = eff-cases (λ d. step (oneAmp q) p d ≡ stay (oneAmp q)) d h refl refl refl refl refl refl
-stays (twoAmp q) o p d h = eff-cases (λ d. step (twoAmp q) p d ≡ stay (twoAmp q)) d h refl refl refl refl refl refl
-stays (slash q) o p d h = absurd (false≢true o)
-stays (comment q) o p d h = absurd (false≢true o)
-stays (star q) o p d h = absurd (false≢true o)
-stays (inStr q w) o p d h = absurd (false≢true o)
-stays (quote q w) o p d h = absurd (false≢true o)
+data Outer : State → Type 0 where
+  resting : Outer idle
+  reading : {s : State} → Busy s → Outer s
 
-passes : (s : State) → outer s ≡ true → (p d : ℕ) (t : List ℕ) → isEffector d ≡ true → run s p (d ∷ t) ≡ run s (suc p) t
+stays : (s : State) → Outer s → (p d : ℕ) → isEffector d ≡ true → step s p d ≡ stay s
+stays s resting p d h = eff-cases (λ d. step idle p d ≡ stay idle) d h refl refl refl refl refl refl
+stays s (reading someWord) p d h = eff-cases (λ d. step s p d ≡ stay s) d h refl refl refl refl refl refl
+stays s (reading somePlus) p d h = eff-cases (λ d. step s p d ≡ stay s) d h refl refl refl refl refl refl
+stays s (reading someAmp) p d h = eff-cases (λ d. step s p d ≡ stay s) d h refl refl refl refl refl refl
+stays s (reading someAmps) p d h = eff-cases (λ d. step s p d ≡ stay s) d h refl refl refl refl refl refl
+
+passes : (s : State) → Outer s → (p d : ℕ) (t : List ℕ) → isEffector d ≡ true → run s p (d ∷ t) ≡ run s (suc p) t
 passes s o p d t h = ap (λ x. next x (λ s′. run s′ (suc p) t)) (stays s o p d h)
 
--- the next visible inside, at whatever place
+-- the next visible byte, at whatever place
 record Skip (c : ℕ) (ms : List Mark) (p : ℕ) (t : List ℕ) : Type 0 where
   q : ℕ
   u : List ℕ
   shows : Shows u ms
-  runs : (s : State) → outer s ≡ true → run s p t ≡ next (step s q c) (λ s′. run s′ (suc q) u)
+  runs : (s : State) → Outer s → run s p t ≡ next (step s q c) (λ s′. run s′ (suc q) u)
 
 skip : {c : ℕ} {ms : List Mark} {t : List ℕ} (p : ℕ) → Shows t (char c ∷ ms) → Skip c ms p t
 skip {c} {ms} p (effector {c = d} {t = t} h s) =
@@ -97,66 +84,39 @@ record Took (s : State) (p : ℕ) (t : List ℕ) (r : Res (List Token)) (ms : Li
   shows : Shows u ms
   runs : run s p t ≡ andThen r (run idle q u)
 
-abbrev busy : State → Bool
-busy idle = false
-busy (inWord q w) = true
-busy (inPlus q w r) = true
-busy (oneAmp q) = true
-busy (twoAmp q) = true
-busy (slash q) = false
-busy (comment q) = false
-busy (star q) = false
-busy (inStr q w) = false
-busy (quote q w) = false
+-- the next visible byte only changes the state; or it is the last of what is read
+goes : {s s′ : State} {c p : ℕ} {t : List ℕ} {ns ms : List Mark} {r : Res (List Token)} (x : Skip c ns p t) → Outer s → step s (x .q) c ≡ stay s′
+    → Took s′ (suc (x .q)) (x .u) r ms → Took s p t r ms
+goes x k e o =
+    record { q = o .q; u = o .u; shows = o .shows; runs = x .runs _ k ∙ ap (λ z. next z (λ s′. run s′ (suc (x .q)) (x .u))) e ∙ o .runs }
 
-busy-outer : (s : State) → busy s ≡ true → outer s ≡ true
-busy-outer idle b = refl
-busy-outer (inWord q w) b = refl
-busy-outer (inPlus q w r) b = refl
-busy-outer (oneAmp q) b = refl
-busy-outer (twoAmp q) b = refl
-busy-outer (slash q) b = b
-busy-outer (comment q) b = b
-busy-outer (star q) b = b
-busy-outer (inStr q w) b = b
-busy-outer (quote q w) b = b
+gives : {s : State} {c p : ℕ} {t : List ℕ} {ms : List Mark} {r : Res (List Token)} (x : Skip c ms p t) → Outer s → step s (x .q) c ≡ emit r idle → Took s p t r ms
+gives x k e = record { q = suc (x .q); u = x .u; shows = x .shows; runs = x .runs _ k ∙ ap (λ z. next z (λ s′. run s′ (suc (x .q)) (x .u))) e }
 
-step-ends : (s : State) → busy s ≡ true → (p c : ℕ) → isEffector c ≡ false → goesOn s c ≡ false → step s p c ≡ end s p c
-step-ends idle b p c he hg = absurd (false≢true b)
-step-ends (inWord q w) b p c he hg = stepW-end q w p c (or-l (isWordChar c) (eqb c 43) hg) (or-r (isWordChar c) (eqb c 43) hg) he
-step-ends (inPlus q w r) b p c he hg = stepP-end q w r p c (or-l (isWordChar c) (eqb c 43) hg) (or-r (isWordChar c) (eqb c 43) hg) he
-step-ends (oneAmp q) b p c he hg = rw (or-l (eqb c 38) (eqb c 45) hg, or-r (eqb c 38) (eqb c 45) hg, he)
-step-ends (twoAmp q) b p c he hg = rw (hg, he)
-step-ends (slash q) b p c he hg = absurd (false≢true b)
-step-ends (comment q) b p c he hg = absurd (false≢true b)
-step-ends (star q) b p c he hg = absurd (false≢true b)
-step-ends (inStr q w) b p c he hg = absurd (false≢true b)
-step-ends (quote q w) b p c he hg = absurd (false≢true b)
+step-ends : (s : State) → Busy s → (p c : ℕ) → isEffector c ≡ false → goesOn s c ≡ false → step s p c ≡ end s p c
+step-ends s (someWord {q = q} {w = w}) p c he hg = let n = or-false (isWordChar c) (eqb c 43) hg in stepW-end q w p c (n .0) (n .1) he
+step-ends s (somePlus {q = q} {w = w} {r = r}) p c he hg = let n = or-false (isWordChar c) (eqb c 43) hg in stepP-end q w r p c (n .0) (n .1) he
+step-ends s someAmp p c he hg = let n = or-false (eqb c 38) (eqb c 45) hg in rw (n .0, n .1, he)
+step-ends s someAmps p c he hg = rw (hg, he)
 
-strange : (s : State) → (goesOn s 47 ≡ false) × (goesOn s 34 ≡ false)
-strange idle = (refl, refl)
-strange (inWord q w) = (refl, refl)
-strange (inPlus q w r) = (refl, refl)
-strange (oneAmp q) = (refl, refl)
-strange (twoAmp q) = (refl, refl)
-strange (slash q) = (refl, refl)
-strange (comment q) = (refl, refl)
-strange (star q) = (refl, refl)
-strange (inStr q w) = (refl, refl)
-strange (quote q w) = (refl, refl)
+strange : (s : State) → Busy s → (goesOn s 47 ≡ false) × (goesOn s 34 ≡ false)
+strange s someWord = (refl, refl)
+strange s somePlus = (refl, refl)
+strange s someAmp = (refl, refl)
+strange s someAmps = (refl, refl)
 
 -- nothing goes on with what was read
-settle : {t : List ℕ} {ms : List Mark} (s : State) → busy s ≡ true → (p : ℕ) → Shows t ms → nextIs (goesOn s) ms ≡ false → Took s p t (flush s) ms
+settle : {t : List ℕ} {ms : List Mark} (s : State) → Busy s → (p : ℕ) → Shows t ms → nextIs (goesOn s) ms ≡ false → Took s p t (flush s) ms
 settle s b p done n = record { q = p; u = []; shows = done; runs = then-nil (flush s) }
 settle {ms = ms} s b p (effector {c = d} {t = t} h sh) n =
     let o : Took s (suc p) t (flush s) ms = settle s b (suc p) sh n in
-    record { q = o .q; u = o .u; shows = o .shows; runs = passes s (busy-outer s b) p d t h ∙ o .runs }
+    record { q = o .q; u = o .u; shows = o .shows; runs = passes s (reading b) p d t h ∙ o .runs }
 settle s b p (visible {c = c} {t = t} h sh) n =
     record { q = p; u = c ∷ t; shows = visible h sh; runs = ended p c t s (step-ends s b p c (plain-not c h) n) }
 settle s b p (comment′ {t = t} k sh) n =
-    record { q = p; u = 47 ∷ 42 ∷ t; shows = comment′ k sh; runs = ended p 47 (42 ∷ t) s (step-ends s b p 47 refl ((strange s) .0)) }
+    record { q = p; u = 47 ∷ 42 ∷ t; shows = comment′ k sh; runs = ended p 47 (42 ∷ t) s (step-ends s b p 47 refl ((strange s b) .0)) }
 settle s b p (string {t = t} k sh) n =
-    record { q = p; u = 34 ∷ t; shows = string k sh; runs = ended p 34 t s (step-ends s b p 34 refl ((strange s) .1)) }
+    record { q = p; u = 34 ∷ t; shows = string k sh; runs = ended p 34 t s (step-ends s b p 34 refl ((strange s b) .1)) }
 
 -- ---- comments and strings
 
@@ -198,7 +158,7 @@ string-run (inside {c = c} {t = t} {w = v} {u = u} n k) r p w =
 
 nil-run : {t : List ℕ} (p : ℕ) → Shows t [] → run idle p t ≡ ok []
 nil-run p done = refl
-nil-run p (effector {c = d} {t = t} h s) = passes idle refl p d t h ∙ nil-run (suc p) s
+nil-run p (effector {c = d} {t = t} h s) = passes idle resting p d t h ∙ nil-run (suc p) s
 
 record Past (p : ℕ) (t : List ℕ) (ms : List Mark) : Type 0 where
   q : ℕ
@@ -209,7 +169,7 @@ record Past (p : ℕ) (t : List ℕ) (ms : List Mark) : Type 0 where
 to-comment : {t : List ℕ} {ms : List Mark} (p : ℕ) → Shows t (remark ∷ ms) → Past p t ms
 to-comment {ms = ms} p (effector {c = d} {t = t} h s) =
     let o : Past (suc p) t ms = to-comment (suc p) s in
-    record { q = o .q; u = o .u; shows = o .shows; runs = passes idle refl p d t h ∙ o .runs }
+    record { q = o .q; u = o .u; shows = o .shows; runs = passes idle resting p d t h ∙ o .runs }
 to-comment p (comment′ {t = t} {u = u} k s) =
     let o : Leads (comment p) (suc (suc p)) t u = comment-run k p (suc (suc p)) in
     record { q = o .q; u = u; shows = s; runs = o .runs }
@@ -222,7 +182,7 @@ to-string : {t w : List ℕ} {ms : List Mark} (p : ℕ) → Shows t (quoted w �
 to-string {w = w} {ms = ms} p (effector {c = d} {t = t} h s) =
     let o : TookOne (suc p) t (λ r. strToken r w) ms = to-string (suc p) s in
     let k : Took idle (suc p) t (strToken (o .r) w) ms = o .took in
-    record { r = o .r; took = record { q = k .q; u = k .u; shows = k .shows; runs = passes idle refl p d t h ∙ k .runs } }
+    record { r = o .r; took = record { q = k .q; u = k .u; shows = k .shows; runs = passes idle resting p d t h ∙ k .runs } }
 to-string p (string {t = t} {w = w} {u = u} k s) =
     let o : Reaches (inStr p []) (suc p) t (strToken p w) u = string-run k p (suc p) [] in
     record { r = p; took = record { q = o .q; u = u; shows = s; runs = o .runs } }
@@ -231,39 +191,27 @@ to-string p (string {t = t} {w = w} {u = u} k s) =
 
 module _ (ms : List Mark) where
   lone : {t : List ℕ} (p c : ℕ) (s : Sep) → ((q : ℕ) → step idle q c ≡ emit (ok (at q (sep s) ∷ [])) idle) → Shows t (char c ∷ ms) → TookOne p t (λ r. ok (at r (sep s) ∷ [])) ms
-  lone {t} p c s e sh =
-      let o : Skip c ms p t = skip p sh in
-      record {
-        r = o .q;
-        took = record { q = suc (o .q); u = o .u; shows = o .shows; runs = o .runs idle refl ∙ ap (λ x. next x (λ s′. run s′ (suc (o .q)) (o .u))) (e (o .q)) };
-      }
+  lone p c s e sh = let x = skip p sh in record { r = x .q; took = gives x resting (e (x .q)) }
 
   sep-run : {t : List ℕ} (s : Sep) (p : ℕ) → longer s ms ≡ false → Shows t (map char (sepText s) ++ ms) → TookOne p t (λ r. ok (at r (sep s) ∷ [])) ms
-  sep-run {t} ampamp- p n sh =
-      let a : Skip 38 (char 38 ∷ char 45 ∷ ms) p t = skip p sh in
-      let b : Skip 38 (char 45 ∷ ms) (suc (a .q)) (a .u) = skip (suc (a .q)) (a .shows) in
-      let c : Skip 45 ms (suc (b .q)) (b .u) = skip (suc (b .q)) (b .shows) in
-      record {
-        r = a .q;
-        took = record { q = suc (c .q); u = c .u; shows = c .shows; runs = a .runs idle refl ∙ b .runs (oneAmp (a .q)) refl ∙ c .runs (twoAmp (a .q)) refl };
-      }
-  sep-run {t} ampamp p n sh =
-      let a : Skip 38 (char 38 ∷ ms) p t = skip p sh in
-      let b : Skip 38 ms (suc (a .q)) (a .u) = skip (suc (a .q)) (a .shows) in
-      let c : Took (twoAmp (a .q)) (suc (b .q)) (b .u) (ok (at (a .q) (sep ampamp) ∷ [])) ms = settle (twoAmp (a .q)) refl (suc (b .q)) (b .shows) n in
-      record { r = a .q; took = record { q = c .q; u = c .u; shows = c .shows; runs = a .runs idle refl ∙ b .runs (oneAmp (a .q)) refl ∙ c .runs } }
-  sep-run {t} amp- p n sh =
-      let a : Skip 38 (char 45 ∷ ms) p t = skip p sh in
-      let b : Skip 45 ms (suc (a .q)) (a .u) = skip (suc (a .q)) (a .shows) in
-      record { r = a .q; took = record { q = suc (b .q); u = b .u; shows = b .shows; runs = a .runs idle refl ∙ b .runs (oneAmp (a .q)) refl } }
-  sep-run {t} amp p n sh =
-      let a : Skip 38 ms p t = skip p sh in
-      let c : Took (oneAmp (a .q)) (suc (a .q)) (a .u) (ok (at (a .q) (sep amp) ∷ [])) ms = settle (oneAmp (a .q)) refl (suc (a .q)) (a .shows) n in
-      record { r = a .q; took = record { q = c .q; u = c .u; shows = c .shows; runs = a .runs idle refl ∙ c .runs } }
-  sep-run {t} plusplus p n sh =
-      let a : Skip 43 (char 43 ∷ ms) p t = skip p sh in
-      let b : Skip 43 ms (suc (a .q)) (a .u) = skip (suc (a .q)) (a .shows) in
-      record { r = a .q; took = record { q = suc (b .q); u = b .u; shows = b .shows; runs = a .runs idle refl ∙ b .runs (inPlus (a .q) [] (a .q)) refl } }
+  sep-run ampamp- p n sh =
+      let a = skip p sh in
+      let b = skip (suc (a .q)) (a .shows) in
+      let c = skip (suc (b .q)) (b .shows) in
+      record { r = a .q; took = goes a resting refl (goes b (reading someAmp) refl (gives c (reading someAmps) refl)) }
+  sep-run ampamp p n sh =
+      let a = skip p sh in
+      let b = skip (suc (a .q)) (a .shows) in
+      record { r = a .q; took = goes a resting refl (goes b (reading someAmp) refl (settle (twoAmp (a .q)) someAmps (suc (b .q)) (b .shows) n)) }
+  sep-run amp- p n sh =
+      let a = skip p sh in
+      let b = skip (suc (a .q)) (a .shows) in
+      record { r = a .q; took = goes a resting refl (gives b (reading someAmp) refl) }
+  sep-run amp p n sh = let a = skip p sh in record { r = a .q; took = goes a resting refl (settle (oneAmp (a .q)) someAmp (suc (a .q)) (a .shows) n) }
+  sep-run plusplus p n sh =
+      let a = skip p sh in
+      let b = skip (suc (a .q)) (a .shows) in
+      record { r = a .q; took = goes a resting refl (gives b (reading somePlus) refl) }
   sep-run dash p n sh = lone p 45 dash (λ q. refl) sh
   sep-run comma p n sh = lone p 44 comma (λ q. refl) sh
   sep-run colon p n sh = lone p 58 colon (λ q. refl) sh
@@ -278,7 +226,7 @@ data EndsAt (b : Bool) (w : List ℕ) : List Mark → Type 0 where
 
 ends-on : (b : Bool) (c : ℕ) (w : List ℕ) {ms : List Mark} → EndsAt b (c ∷ w) ms → EndsAt (not (isWordChar c)) w ms
 ends-on b c w (other′ n) = other′ n
-ends-on b c w (plus′ k) = plus′ (and-r (isWordChar c || (eqb c 43 && not b)) (wordChars (not (isWordChar c)) (w ++ (43 ∷ []))) k)
+ends-on b c w (plus′ k) = plus′ (search conjuncts)
 
 -- `++` ends a word, and is read as it would be without the word
 word-plus : {t : List ℕ} {ms : List Mark} (q a : ℕ) (acc : List ℕ) (p : ℕ) → Shows t (char 43 ∷ char 43 ∷ ms)
@@ -288,20 +236,17 @@ word-plus {t} {ms} q a acc p sh =
     let y : Skip 43 ms (suc (x .q)) (x .u) = skip (suc (x .q)) (x .shows) in
     let pp : Res (List Token) = ok (at (x .q) (sep plusplus) ∷ []) in
     let r : Res (List Token) = run idle (suc (y .q)) (y .u) in
-    let free : run idle p t ≡ andThen pp r = x .runs idle refl ∙ y .runs (inPlus (x .q) [] (x .q)) refl in
-    x .runs (inWord q (a ∷ acc)) refl ∙ y .runs (inPlus q (a ∷ acc) (x .q)) refl ∙ then-assoc (wordToken q (reverse (a ∷ acc))) pp r
+    let free : run idle p t ≡ andThen pp r = x .runs idle resting ∙ y .runs (inPlus (x .q) [] (x .q)) (reading somePlus) in
+    x .runs (inWord q (a ∷ acc)) (reading someWord) ∙ y .runs (inPlus q (a ∷ acc) (x .q)) (reading somePlus) ∙ then-assoc (wordToken q (reverse (a ∷ acc))) pp r
     ∙ ap (andThen (wordToken q (reverse (a ∷ acc)))) (sym free)
 
 last-word : {t : List ℕ} {ms : List Mark} (q a : ℕ) (acc : List ℕ) (p : ℕ) → Shows t ms → EndsAt false [] ms → Took (inWord q (a ∷ acc)) p t (wordToken q (reverse (a ∷ acc))) ms
-last-word q a acc p sh (other′ n) = settle (inWord q (a ∷ acc)) refl p sh n
+last-word q a acc p sh (other′ n) = settle (inWord q (a ∷ acc)) someWord p sh n
 last-word {t} q a acc p sh (plus′ k) = record { q = p; u = t; shows = sh; runs = word-plus q a acc p sh }
 
 last-plus : {t : List ℕ} {ms : List Mark} (q : ℕ) (acc : List ℕ) (r p : ℕ) → Shows t ms → EndsAt true [] ms → Took (inPlus q acc r) p t (wordToken q (reverseAux acc (43 ∷ []))) ms
-last-plus q acc r p sh (other′ n) = settle (inPlus q acc r) refl p sh n
+last-plus q acc r p sh (other′ n) = settle (inPlus q acc r) somePlus p sh n
 last-plus q acc r p sh (plus′ k) = absurd (false≢true k)
-
-to-plus : (q : ℕ) (w : List ℕ) (p c : ℕ) → isWordChar c ≡ false → eqb c 43 ≡ true → step (inWord q w) p c ≡ stay (inPlus q w p)
-to-plus q w p c y z = rw (y, z)
 
 mutual
   word-walk : (w : List ℕ) {t : List ℕ} {ms : List Mark} (q a : ℕ) (acc : List ℕ) (p : ℕ) → Shows t (map char w ++ ms) → wordChars false w ≡ true → EndsAt false w ms
@@ -310,21 +255,12 @@ mutual
   word-walk (c ∷ w) {t} {ms} q a acc p sh h e =
       let x : Skip c (map char w ++ ms) p t = skip p sh in
       byBool (isWordChar c)
-      (λ y.
-      let o : Took (inWord q (c ∷ a ∷ acc)) (suc (x .q)) (x .u) (wordToken q (reverseAux acc (a ∷ c ∷ w))) ms =
-      word-walk w q c (a ∷ acc) (suc (x .q)) (x .shows) (rw y at h) (subst (λ z. EndsAt (not z) w ms) y (ends-on false c w e)) in
-      record { q = o .q; u = o .u; shows = o .shows; runs = x .runs (inWord q (a ∷ acc)) refl ∙ rw y (o .runs) })
+      (λ y. goes x (reading someWord) (rw y) (word-walk w q c (a ∷ acc) (suc (x .q)) (x .shows) (rw y at h) (subst (λ z. EndsAt (not z) w ms) y (ends-on false c w e))))
       (λ y.
       let h′ : (eqb c 43 && true) && wordChars true w ≡ true = rw y at h in
-      let z : eqb c 43 ≡ true = and-l (eqb c 43) true (and-l (eqb c 43 && true) (wordChars true w) h′) in
-      let o : Took (inPlus q (a ∷ acc) (x .q)) (suc (x .q)) (x .u) (wordToken q (reverseAux (a ∷ acc) (43 ∷ w))) ms =
-      plus-walk w q (a ∷ acc) (x .q) (suc (x .q)) (x .shows) (and-r (eqb c 43 && true) (wordChars true w) h′) (subst (λ z. EndsAt (not z) w ms) y (ends-on false c w e)) in
-      record {
-        q = o .q;
-        u = o .u;
-        shows = o .shows;
-        runs = x .runs (inWord q (a ∷ acc)) refl ∙ ap (λ k. next k (λ s′. run s′ (suc (x .q)) (x .u))) (to-plus q (a ∷ acc) (x .q) c y z) ∙ o .runs ∙ ap (λ d. andThen (wordToken q (reverseAux acc (a ∷ d ∷ w))) (run idle (o .q) (o .u))) (sym (eqb-true c 43 z));
-      })
+      let z : eqb c 43 ≡ true = search conjuncts in
+      goes x (reading someWord) (rw (y, z)) (subst (λ d. Took (inPlus q (a ∷ acc) (x .q)) (suc (x .q)) (x .u) (wordToken q (reverseAux acc (a ∷ d ∷ w))) ms) (sym (eqb-true c 43 z))
+      (plus-walk w q (a ∷ acc) (x .q) (suc (x .q)) (x .shows) (search conjuncts) (subst (λ z. EndsAt (not z) w ms) y (ends-on false c w e)))))
 
   plus-walk : (w : List ℕ) {t : List ℕ} {ms : List Mark} (q : ℕ) (acc : List ℕ) (r p : ℕ) → Shows t (map char w ++ ms) → wordChars true w ≡ true → EndsAt true w ms
       → Took (inPlus q acc r) p t (wordToken q (reverseAux acc (43 ∷ w))) ms
@@ -332,13 +268,10 @@ mutual
   plus-walk (c ∷ w) {t} {ms} q acc r p sh h e =
       let x : Skip c (map char w ++ ms) p t = skip p sh in
       byBool (isWordChar c)
-      (λ y.
-      let o : Took (inWord q (c ∷ 43 ∷ acc)) (suc (x .q)) (x .u) (wordToken q (reverseAux (43 ∷ acc) (c ∷ w))) ms =
-      word-walk w q c (43 ∷ acc) (suc (x .q)) (x .shows) (rw y at h) (subst (λ z. EndsAt (not z) w ms) y (ends-on true c w e)) in
-      record { q = o .q; u = o .u; shows = o .shows; runs = x .runs (inPlus q acc r) refl ∙ rw y (o .runs) })
+      (λ y. goes x (reading somePlus) (rw y) (word-walk w q c (43 ∷ acc) (suc (x .q)) (x .shows) (rw y at h) (subst (λ z. EndsAt (not z) w ms) y (ends-on true c w e))))
       (λ y.
       let h′ : (eqb c 43 && false) && wordChars true w ≡ true = rw y at h in
-      absurd (false≢true (and-r (eqb c 43) false (and-l (eqb c 43 && false) (wordChars true w) h′))))
+      absurd (false≢true (search conjuncts)))
 
 word-run : {t : List ℕ} {ms : List Mark} (w : List ℕ) (p : ℕ) → runOf inWords w ≡ true → double w ≡ false → Ends w ms → Shows t (map char w ++ ms) → TookOne p t (λ r. wordToken r w) ms
 word-run [] p n d e sh = absurd (false≢true n)
@@ -347,33 +280,19 @@ word-run {t} {ms} (c ∷ w) p n d e sh =
     let x : Skip c (map char w ++ ms) p t = skip p sh in
     let e′ : EndsAt (not (isWordChar c)) w ms = ends-on false c w (weaken n e) in
     byBool (isWordChar c)
-    (λ y.
-    let o : Took (inWord (x .q) (c ∷ [])) (suc (x .q)) (x .u) (wordToken (x .q) (c ∷ w)) ms =
-    word-walk w (x .q) c [] (suc (x .q)) (x .shows) (rw y at h) (subst (λ z. EndsAt (not z) w ms) y e′) in
-    let st : step idle (x .q) c ≡ stay (inWord (x .q) (c ∷ [])) = rw y in
-    record { r = x .q; took = record { q = o .q; u = o .u; shows = o .shows; runs = x .runs idle refl ∙ ap (λ k. next k (λ s′. run s′ (suc (x .q)) (x .u))) st ∙ o .runs } })
+    (λ y. record { r = x .q; took = goes x resting (rw y) (word-walk w (x .q) c [] (suc (x .q)) (x .shows) (rw y at h) (subst (λ z. EndsAt (not z) w ms) y e′)) })
     (λ y.
     let h′ : (eqb c 43 && true) && wordChars true w ≡ true = rw y at h in
-    let z : eqb c 43 ≡ true = and-l (eqb c 43) true (and-l (eqb c 43 && true) (wordChars true w) h′) in
-    let o : Took (inPlus (x .q) [] (x .q)) (suc (x .q)) (x .u) (wordToken (x .q) (43 ∷ w)) ms =
-    plus-walk w (x .q) [] (x .q) (suc (x .q)) (x .shows) (and-r (eqb c 43 && true) (wordChars true w) h′) (subst (λ z. EndsAt (not z) w ms) y e′) in
+    let z : eqb c 43 ≡ true = search conjuncts in
     record {
       r = x .q;
-      took = record {
-        q = o .q;
-        u = o .u;
-        shows = o .shows;
-        runs = x .runs idle refl ∙ ap (λ k. next k (λ s′. run s′ (suc (x .q)) (x .u))) (from-idle (x .q) c y z) ∙ o .runs
-            ∙ ap (λ d. andThen (wordToken (x .q) (d ∷ w)) (run idle (o .q) (o .u))) (sym (eqb-true c 43 z));
-      };
+      took = goes x resting (rw (y, z)) (subst (λ d. Took (inPlus (x .q) [] (x .q)) (suc (x .q)) (x .u) (wordToken (x .q) (d ∷ w)) ms) (sym (eqb-true c 43 z))
+          (plus-walk w (x .q) [] (x .q) (suc (x .q)) (x .shows) (search conjuncts) (subst (λ z. EndsAt (not z) w ms) y e′)));
     })
   where
     weaken : {v : List ℕ} {ms : List Mark} → all inWords v ≡ true → Ends v ms → EndsAt false v ms
     weaken h (other n) = other′ n
     weaken {v} h (plus k) = plus′ (one-plus v h k)
-
-    from-idle : (p c : ℕ) → isWordChar c ≡ false → eqb c 43 ≡ true → step idle p c ≡ stay (inPlus p [] p)
-    from-idle p c y z = rw (y, z)
 
 -- ---- the whole
 
@@ -406,10 +325,6 @@ tokens-complete (letters w {ms = ms} n h few e k) p t sh =
     let q : wordToken (o .r) w ≡ ok (at (o .r) (word w) ∷ []) = rw (le-leb (length w) (wordMost w) few) in
     finish (word w) (o .r) p t (wordToken (o .r) w) q (o .took) (λ q u s. tokens-complete k q u s)
 
-off-ok : (cs : List ℕ) (p : ℕ) → all isPermitted cs ≡ true → firstOff p cs ≡ ok true
-off-ok [] p h = refl
-off-ok (c ∷ cs) p h = rw (and-l (isPermitted c) (all isPermitted cs) h, firstOff) (off-ok cs (suc p) (and-r (isPermitted c) (all isPermitted cs) h))
-
 pub record Scanned (cs : List ℕ) (xs : List Lex) : Type 0 where
   pub tokens : List Token
   pub got : scan cs ≡ ok tokens
@@ -419,4 +334,4 @@ pub spells-complete : (cs : List ℕ) (xs : List Lex) → Spells cs xs → Scann
 unfolding scan
 spells-complete cs xs s =
     let r : Reads 0 cs xs = tokens-complete (s .cut) 0 cs (s .seen) in
-    record { tokens = r .us; got = rw (le-leb (length cs) 1024 (s .few), scan) (rw (off-ok cs 0 (s .permitted)) (r .got)); are = r .are }
+    record { tokens = r .us; got = rw (le-leb (length cs) 1024 (s .few), scan) (rw (none-off cs 0 (s .permitted)) (r .got)); are = r .are }

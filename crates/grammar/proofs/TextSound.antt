@@ -11,10 +11,11 @@ use Rattle.laws.specs.Cases.{byBool}
 use Rattle.laws.specs.Lists.{all, isNil}
 use Rattle.rules.specs.Characters.{isWordChar, isEffector}
 use Rattle.rules.specs.Refusals.{Res, ok, bad}
-use Rattle.rules.specs.Tokens.{lexOf, Sep, ampamp-, ampamp, amp-, amp, plusplus, dash, comma, colon, equals, semi, Lex, word, str, sep, Token, at, State, idle, inWord, inPlus, oneAmp, twoAmp, slash, comment, star, inStr, quote, wordChars, wordMost, wordToken, wordTokens, flush, andThen, end, step, run, firstOff, scan}
-use Rattle.rules.proofs.ResultLaws.{ok-inj, ok≢bad, bind-ok, cond-ok}
+use Rattle.rules.specs.Tokens.{lexOf, Sep, ampamp-, ampamp, amp-, amp, plusplus, dash, comma, colon, equals, semi, Lex, word, str, sep, Token, at, State, idle, inWord, inPlus, oneAmp, twoAmp, slash, comment, star, inStr, quote, wordChars, wordMost, wordToken, wordTokens, flush, andThen, end, step, run, scan}
+use Rattle.rules.proofs.ReadSteps.{scan-read}
+use Rattle.rules.proofs.ResultLaws.{ok-inj, ok≢bad, cond-ok}
 use Rattle.rules.proofs.ScanBack.{ended, stepW-end, stepP-end, then-assoc}
-use Rattle.rules.proofs.ScanSound.{Goes, words-end, plus-end, reverse-some, some-aux, off-none}
+use Rattle.rules.proofs.ScanSound.{Goes, words-end, plus-end, reverse-some, some-aux}
 use Rattle.grammar.specs.Grammar.{inWords, double, Mark, char, remark, quoted, begins, Comment, close, inside, Quoted, mark, isPlain, Shows, done, effector, visible, comment as comment′, string, nextIs, Ends, other, plus, Tokens, separator, letters, Spells}
 use Rattle.grammar.proofs.WordExact.{chars-are}
 
@@ -49,7 +50,7 @@ Fit (star q) = Always
 Fit (inStr q w) = Always
 Fit (quote q w) = Always
 
--- a inside that goes on with what a state has read
+-- a byte that goes on with what a state has read
 abbrev pub goesOn : State → ℕ → Bool
 goesOn idle c = false
 goesOn (inWord q w) c = isWordChar c || eqb c 43
@@ -148,7 +149,7 @@ shows-next f c he hf (visible h s) = hf
 shows-next f c he hf (comment′ h s) = refl
 shows-next f c he hf (string h s) = refl
 
--- ---- single inside
+-- ---- a byte
 
 module _ (c : ℕ) (cs : List ℕ) (ih : (s : State) (p : ℕ) (us : List Token) → Fit s → run s p cs ≡ ok us → Claim s cs (map lexOf us)) where
   emitted : (C : List Lex → Type 0) (ts : List Token) (p : ℕ) (us : List Token) → andThen (ok ts) (run idle p cs) ≡ ok us
@@ -159,39 +160,39 @@ module _ (c : ℕ) (cs : List ℕ) (ih : (s : State) (p : ℕ) (us : List Token)
       let o : Outer idle cs (map lexOf vs) = ih idle p vs tt b in
       subst C (sym (lexes-append ts vs) ∙ ap (λ l. map lexOf (l ++ vs)) (ok-inj a) ∙ ap (map lexOf) e) (k (o .ms) (map lexOf vs) (o .shows) (o .tokens)))
 
-  alone : (s : Sep) (d p : ℕ) (us : List Token) → c ≡ d → isPlain d ≡ true → ((ms : List Mark) (ys : List Lex) → Tokens ms ys → Tokens (char d ∷ ms) (sep s ∷ ys))
-      → andThen (ok (at p (sep s) ∷ [])) (run idle (suc p) cs) ≡ ok us → Outer idle (c ∷ cs) (map lexOf us)
-  alone s d p us e hd k h =
-      emitted (λ xs. Outer idle (c ∷ cs) xs) (at p (sep s) ∷ []) (suc p) us h
-      (λ ms ys sh t. rw e (record { ms = char d ∷ ms; shows = visible hd sh; tokens = k ms ys t }))
+  -- the byte makes a separator with what the state has read
+  alone : {s₀ : State} (s : Sep) (d q p : ℕ) (us : List Token) → c ≡ d → isPlain d ≡ true
+      → ((ms : List Mark) (ys : List Lex) → Tokens ms ys → Tokens (pre s₀ (char d ∷ ms)) (sep s ∷ ys)) → andThen (ok (at q (sep s) ∷ [])) (run idle p cs) ≡ ok us
+      → Outer s₀ (c ∷ cs) (map lexOf us)
+  alone {s₀} s d q p us e hd k h =
+      emitted (λ xs. Outer s₀ (c ∷ cs) xs) (at q (sep s) ∷ []) p us h (λ ms ys sh t. rw e (record { ms = char d ∷ ms; shows = visible hd sh; tokens = k ms ys t }))
+
+  -- the byte is seen, or passed over
+  seen : {s s′ : State} {xs : List Lex} (d : ℕ) → c ≡ d → isPlain d ≡ true → ((ms : List Mark) → pre s′ ms ≡ pre s (char d ∷ ms)) → Outer s′ cs xs → Outer s (c ∷ cs) xs
+  seen {xs = xs} d e h k o = rw e (record { ms = char d ∷ o .ms; shows = visible h (o .shows); tokens = subst (λ z. Tokens z xs) (k (o .ms)) (o .tokens) })
+
+  passed : {s : State} {xs : List Lex} → isEffector c ≡ true → Outer s cs xs → Outer s (c ∷ cs) xs
+  passed y o = record { ms = o .ms; shows = effector y (o .shows); tokens = o .tokens }
 
   idle-sound : (p : ℕ) (us : List Token) → run idle p (c ∷ cs) ≡ ok us → Outer idle (c ∷ cs) (map lexOf us)
   idle-sound p us h =
       byBool (isWordChar c)
-      (λ y.
-      let o : Outer (inWord p (c ∷ [])) cs (map lexOf us) = ih (inWord p (c ∷ [])) (suc p) us (refl, words-end [] c y (λ cs h. h)) (rw y at h) in
-      record { ms = char c ∷ o .ms; shows = visible (rw y) (o .shows); tokens = o .tokens })
+      (λ y. seen c refl (rw y) (λ ms. refl) (ih (inWord p (c ∷ [])) (suc p) us (refl, words-end [] c y (λ cs h. h)) (rw y at h)))
       (λ n0. byBool (eqb c 43)
-      (λ y.
-      let o : Outer (inPlus p [] p) cs (map lexOf us) = ih (inPlus p [] p) (suc p) us (λ cs h. h) (rw (n0, y) at h) in
-      rw (eqb-true c 43 y) (record { ms = char 43 ∷ o .ms; shows = visible refl (o .shows); tokens = o .tokens }))
+      (λ y. seen 43 (eqb-true c 43 y) refl (λ ms. refl) (ih (inPlus p [] p) (suc p) us (λ cs h. h) (rw (n0, y) at h)))
       (λ n1. byBool (eqb c 38)
-      (λ y.
-      let o : Outer (oneAmp p) cs (map lexOf us) = ih (oneAmp p) (suc p) us tt (rw (n0, n1, y) at h) in
-      rw (eqb-true c 38 y) (record { ms = char 38 ∷ o .ms; shows = visible refl (o .shows); tokens = o .tokens }))
-      (λ n2. byBool (eqb c 45) (λ y. alone dash 45 p us (eqb-true c 45 y) refl (λ ms ys t. separator dash refl t) (rw (n0, n1, n2, y) at h))
-      (λ n3. byBool (eqb c 44) (λ y. alone comma 44 p us (eqb-true c 44 y) refl (λ ms ys t. separator comma refl t) (rw (n0, n1, n2, n3, y) at h))
-      (λ n4. byBool (eqb c 58) (λ y. alone colon 58 p us (eqb-true c 58 y) refl (λ ms ys t. separator colon refl t) (rw (n0, n1, n2, n3, n4, y) at h))
-      (λ n5. byBool (eqb c 61) (λ y. alone equals 61 p us (eqb-true c 61 y) refl (λ ms ys t. separator equals refl t) (rw (n0, n1, n2, n3, n4, n5, y) at h))
-      (λ n6. byBool (eqb c 59) (λ y. alone semi 59 p us (eqb-true c 59 y) refl (λ ms ys t. separator semi refl t) (rw (n0, n1, n2, n3, n4, n5, n6, y) at h))
+      (λ y. seen 38 (eqb-true c 38 y) refl (λ ms. refl) (ih (oneAmp p) (suc p) us tt (rw (n0, n1, y) at h)))
+      (λ n2. byBool (eqb c 45) (λ y. alone dash 45 p (suc p) us (eqb-true c 45 y) refl (λ ms ys t. separator dash refl t) (rw (n0, n1, n2, y) at h))
+      (λ n3. byBool (eqb c 44) (λ y. alone comma 44 p (suc p) us (eqb-true c 44 y) refl (λ ms ys t. separator comma refl t) (rw (n0, n1, n2, n3, y) at h))
+      (λ n4. byBool (eqb c 58) (λ y. alone colon 58 p (suc p) us (eqb-true c 58 y) refl (λ ms ys t. separator colon refl t) (rw (n0, n1, n2, n3, n4, y) at h))
+      (λ n5. byBool (eqb c 61) (λ y. alone equals 61 p (suc p) us (eqb-true c 61 y) refl (λ ms ys t. separator equals refl t) (rw (n0, n1, n2, n3, n4, n5, y) at h))
+      (λ n6. byBool (eqb c 59) (λ y. alone semi 59 p (suc p) us (eqb-true c 59 y) refl (λ ms ys t. separator semi refl t) (rw (n0, n1, n2, n3, n4, n5, n6, y) at h))
       (λ n7. byBool (eqb c 47)
       (λ y. comment-begins (eqb-true c 47 y) (ih (slash p) (suc p) us tt (rw (n0, n1, n2, n3, n4, n5, n6, n7, y) at h)))
       (λ n8. byBool (eqb c 34)
       (λ y. string-begins (eqb-true c 34 y) (ih (inStr p []) (suc p) us tt (rw (n0, n1, n2, n3, n4, n5, n6, n7, n8, y) at h)))
       (λ n9. byBool (isEffector c)
-      (λ y.
-      let o : Outer idle cs (map lexOf us) = ih idle (suc p) us tt (rw (n0, n1, n2, n3, n4, n5, n6, n7, n8, n9, y) at h) in
-      record { ms = o .ms; shows = effector y (o .shows); tokens = o .tokens })
+      (λ y. passed y (ih idle (suc p) us tt (rw (n0, n1, n2, n3, n4, n5, n6, n7, n8, n9, y) at h)))
       (λ n10. ok≢bad (rw (n0, n1, n2, n3, n4, n5, n6, n7, n8, n9, n10) at h))))))))))))
     where
       comment-begins : {xs : List Lex} → c ≡ 47 → AtC cs xs → Outer idle (c ∷ cs) xs
@@ -203,7 +204,7 @@ module _ (c : ℕ) (cs : List ℕ) (ih : (s : State) (p : ℕ) (us : List Token)
           subst (λ z. Outer idle (z ∷ cs) xs) (sym e)
           (record { ms = quoted (a .v) ∷ a .ms; shows = string (a .rest) (a .shows); tokens = subst (λ z. Tokens (quoted (a .v) ∷ a .ms) z) (sym (a .are)) (string (a .few) (a .tokens)) })
 
-  -- a inside that ends what was read
+  -- a byte that ends what was read
   end-sound : (s : State) (p : ℕ) (us : List Token) → Fit s → step s p c ≡ end s p c → isEffector c ≡ false → goesOn s c ≡ false → run s p (c ∷ cs) ≡ ok us
       → Outer s (c ∷ cs) (map lexOf us)
   end-sound s p us f e he hg h =
@@ -220,17 +221,11 @@ module _ (c : ℕ) (cs : List ℕ) (ih : (s : State) (p : ℕ) (us : List Token)
   word-sound : (q : ℕ) (w : List ℕ) (p : ℕ) (us : List Token) → Fit (inWord q w) → run (inWord q w) p (c ∷ cs) ≡ ok us → Outer (inWord q w) (c ∷ cs) (map lexOf us)
   word-sound q w p us f h =
       byBool (isWordChar c)
-      (λ y.
-      let o : Outer (inWord q (c ∷ w)) cs (map lexOf us) = ih (inWord q (c ∷ w)) (suc p) us (refl, words-end w c y (f .1)) (rw y at h) in
-      record { ms = char c ∷ o .ms; shows = visible (rw y) (o .shows); tokens = o .tokens })
+      (λ y. seen c refl (rw y) (λ ms. refl) (ih (inWord q (c ∷ w)) (suc p) us (refl, words-end w c y (f .1)) (rw y at h)))
       (λ n0. byBool (eqb c 43)
-      (λ y.
-      let o : Outer (inPlus q w p) cs (map lexOf us) = ih (inPlus q w p) (suc p) us (f .1) (rw (n0, y) at h) in
-      rw (eqb-true c 43 y) (record { ms = char 43 ∷ o .ms; shows = visible refl (o .shows); tokens = o .tokens }))
+      (λ y. seen 43 (eqb-true c 43 y) refl (λ ms. refl) (ih (inPlus q w p) (suc p) us (f .1) (rw (n0, y) at h)))
       (λ n1. byBool (isEffector c)
-      (λ y.
-      let o : Outer (inWord q w) cs (map lexOf us) = ih (inWord q w) (suc p) us f (rw (n0, n1, y) at h) in
-      record { ms = o .ms; shows = effector y (o .shows); tokens = o .tokens })
+      (λ y. passed y (ih (inWord q w) (suc p) us f (rw (n0, n1, y) at h)))
       (λ n2. end-sound (inWord q w) p us f (stepW-end q w p c n0 n1 n2) n2 (rw (n0, n1)) h)))
 
   -- the second of two `+`
@@ -255,43 +250,27 @@ module _ (c : ℕ) (cs : List ℕ) (ih : (s : State) (p : ℕ) (us : List Token)
   plus-sound : (q : ℕ) (w : List ℕ) (r p : ℕ) (us : List Token) → Goes w → run (inPlus q w r) p (c ∷ cs) ≡ ok us → Outer (inPlus q w r) (c ∷ cs) (map lexOf us)
   plus-sound q w r p us f h =
       byBool (isWordChar c)
-      (λ y.
-      let o : Outer (inWord q (c ∷ 43 ∷ w)) cs (map lexOf us) = ih (inWord q (c ∷ 43 ∷ w)) (suc p) us (refl, plus-end w c y f) (rw y at h) in
-      record { ms = char c ∷ o .ms; shows = visible (rw y) (o .shows); tokens = o .tokens })
+      (λ y. seen c refl (rw y) (λ ms. refl) (ih (inWord q (c ∷ 43 ∷ w)) (suc p) us (refl, plus-end w c y f) (rw y at h)))
       (λ n0. byBool (eqb c 43)
       (λ y. rw (eqb-true c 43 y) (plus-plus q w r (suc p) us f (rw (n0, y) at h)))
       (λ n1. byBool (isEffector c)
-      (λ y.
-      let o : Outer (inPlus q w r) cs (map lexOf us) = ih (inPlus q w r) (suc p) us f (rw (n0, n1, y) at h) in
-      record { ms = o .ms; shows = effector y (o .shows); tokens = o .tokens })
+      (λ y. passed y (ih (inPlus q w r) (suc p) us f (rw (n0, n1, y) at h)))
       (λ n2. end-sound (inPlus q w r) p us f (stepP-end q w r p c n0 n1 n2) n2 (rw (n0, n1)) h)))
 
   amp-sound : (q p : ℕ) (us : List Token) → run (oneAmp q) p (c ∷ cs) ≡ ok us → Outer (oneAmp q) (c ∷ cs) (map lexOf us)
   amp-sound q p us h =
       byBool (eqb c 38)
-      (λ y.
-      let o : Outer (twoAmp q) cs (map lexOf us) = ih (twoAmp q) (suc p) us tt (rw y at h) in
-      rw (eqb-true c 38 y) (record { ms = char 38 ∷ o .ms; shows = visible refl (o .shows); tokens = o .tokens }))
-      (λ n0. byBool (eqb c 45)
-      (λ y.
-      emitted (λ xs. Outer (oneAmp q) (c ∷ cs) xs) (at q (sep amp-) ∷ []) (suc p) us (rw (n0, y) at h)
-      (λ ms ys sh t. rw (eqb-true c 45 y) (record { ms = char 45 ∷ ms; shows = visible refl sh; tokens = separator amp- refl t })))
+      (λ y. seen 38 (eqb-true c 38 y) refl (λ ms. refl) (ih (twoAmp q) (suc p) us tt (rw y at h)))
+      (λ n0. byBool (eqb c 45) (λ y. alone amp- 45 q (suc p) us (eqb-true c 45 y) refl (λ ms ys t. separator amp- refl t) (rw (n0, y) at h))
       (λ n1. byBool (isEffector c)
-      (λ y.
-      let o : Outer (oneAmp q) cs (map lexOf us) = ih (oneAmp q) (suc p) us tt (rw (n0, n1, y) at h) in
-      record { ms = o .ms; shows = effector y (o .shows); tokens = o .tokens })
+      (λ y. passed y (ih (oneAmp q) (suc p) us tt (rw (n0, n1, y) at h)))
       (λ n2. end-sound (oneAmp q) p us tt (rw (n0, n1, n2)) n2 (rw (n0, n1)) h)))
 
   amps-sound : (q p : ℕ) (us : List Token) → run (twoAmp q) p (c ∷ cs) ≡ ok us → Outer (twoAmp q) (c ∷ cs) (map lexOf us)
   amps-sound q p us h =
-      byBool (eqb c 45)
-      (λ y.
-      emitted (λ xs. Outer (twoAmp q) (c ∷ cs) xs) (at q (sep ampamp-) ∷ []) (suc p) us (rw y at h)
-      (λ ms ys sh t. rw (eqb-true c 45 y) (record { ms = char 45 ∷ ms; shows = visible refl sh; tokens = separator ampamp- refl t })))
+      byBool (eqb c 45) (λ y. alone ampamp- 45 q (suc p) us (eqb-true c 45 y) refl (λ ms ys t. separator ampamp- refl t) (rw y at h))
       (λ n1. byBool (isEffector c)
-      (λ y.
-      let o : Outer (twoAmp q) cs (map lexOf us) = ih (twoAmp q) (suc p) us tt (rw (n1, y) at h) in
-      record { ms = o .ms; shows = effector y (o .shows); tokens = o .tokens })
+      (λ y. passed y (ih (twoAmp q) (suc p) us tt (rw (n1, y) at h)))
       (λ n2. end-sound (twoAmp q) p us tt (rw (n1, n2)) n2 (rw n1) h))
 
   slash-sound : (q p : ℕ) (us : List Token) → run (slash q) p (c ∷ cs) ≡ ok us → AtC (c ∷ cs) (map lexOf us)
@@ -399,12 +378,7 @@ run-sound [] s p us f h = nil-sound s us f h
 run-sound (c ∷ cs) s p us f h = byte-sound c cs (run-sound cs) s p us f h
 
 pub spells-sound : (cs : List ℕ) (ts : List Token) → scan cs ≡ ok ts → Spells cs (map lexOf ts)
-unfolding scan
 spells-sound cs ts h =
-    byBool (leb (length cs) 1024)
-    (λ y.
-    bind-ok (firstOff 0 cs) (λ b. run idle 0 cs) ts (rw (y, scan) at h)
-    (λ b a k.
-    let o : Outer idle cs (map lexOf ts) = run-sound cs idle 0 ts tt k in
-    record { few = leb-true (length cs) 1024 y; permitted = off-none cs 0 b a; marks = o .ms; seen = o .shows; cut = o .tokens }))
-    (λ y. ok≢bad (rw (y, scan) at h))
+    let r = scan-read cs ts h in
+    let o : Outer idle cs (map lexOf ts) = run-sound cs idle 0 ts tt (r .runs) in
+    record { few = r .few; permitted = r .permitted; marks = o .ms; seen = o .shows; cut = o .tokens }

@@ -1,11 +1,11 @@
 -- A word's characters: the scan's test says what the grammar's two tests say, by induction along the word.
 use Prim.Native.Nat.{ℕ}
 use mathlib.Core.Path.{_≡_, refl, sym, ap, _∙_}
-use mathlib.Core.Bool.{Bool, true, false, _&&_, _||_, not, false≢true}
+use mathlib.Core.Bool.{Bool, true, false, _&&_, not, false≢true}
 use mathlib.Core.List.{List, [], _∷_, _++_}
 use lib.Dec.{eqb}
 use borrow.Author.Tests.{eqb-true, not-true}
-use Rattle.laws.specs.Cases.{byBool, and-l, and-r}
+use Rattle.laws.specs.Cases.{byBool, and-l, and-r, or-true, or-false, conjuncts}
 use Rattle.laws.specs.Lists.{all, all-append}
 use Rattle.rules.specs.Characters.{isWordChar}
 use Rattle.rules.specs.Tokens.{wordChars}
@@ -13,14 +13,6 @@ use Rattle.grammar.specs.Grammar.{inWords, begins, double}
 
 no-plus : (c : ℕ) → isWordChar c ≡ true → eqb c 43 ≡ false
 no-plus c y = byBool (eqb c 43) (λ z. absurd (false≢true (ap isWordChar (sym (eqb-true c 43 z)) ∙ y))) (λ z. z)
-
-or-false : (a b : Bool) → a || b ≡ false → (a ≡ false) × (b ≡ false)
-or-false true b h = absurd (false≢true (sym h))
-or-false false b h = (refl, h)
-
-or-true : (a : Bool) → a || true ≡ true
-or-true true = refl
-or-true false = refl
 
 -- b: a `+` stands before
 pub chars-are : (b : Bool) (w : List ℕ) → wordChars b w ≡ true → (all inWords w ≡ true) × (double w ≡ false) × (b ≡ true → begins 43 w ≡ false)
@@ -34,8 +26,8 @@ chars-are b (c ∷ w) h =
     let h′ : (eqb c 43 && not b) && wordChars true w ≡ true = rw y at h in
     let k : eqb c 43 && not b ≡ true = and-l (eqb c 43 && not b) (wordChars true w) h′ in
     let e : eqb c 43 ≡ true = and-l (eqb c 43) (not b) k in
-    let nb : b ≡ false = not-true b (and-r (eqb c 43) (not b) k) in
-    let ih : (all inWords w ≡ true) × (double w ≡ false) × (true ≡ true → begins 43 w ≡ false) = chars-are true w (and-r (eqb c 43 && not b) (wordChars true w) h′) in
+    let nb : b ≡ false = not-true b (search conjuncts) in
+    let ih : (all inWords w ≡ true) × (double w ≡ false) × (true ≡ true → begins 43 w ≡ false) = chars-are true w (search conjuncts) in
     (rw (e, or-true (isWordChar c)) (ih .0), rw (e, ih .2 refl) (ih .1), λ z. absurd (false≢true (sym nb ∙ z))))
 
 pub are-chars : (b : Bool) (w : List ℕ) → all inWords w ≡ true → double w ≡ false → (b ≡ true → begins 43 w ≡ false) → wordChars b w ≡ true

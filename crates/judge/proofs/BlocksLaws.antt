@@ -1,11 +1,11 @@
 -- Blocks from the front: a block's kind is its field's letter, its places stand behind; each turn of the loop over blocks reads one more.
-use mathlib.Core.Path.{_≡_, refl, sym, ap, _∙_, subst}
+use mathlib.Core.Path.{_≡_, refl, sym, ap, ap₂, _∙_, subst}
 use mathlib.Core.Bool.{Bool, true, false, false≢true}
 use mathlib.Core.List.{List, [], _∷_, _++_, map, append-assoc, append-nil}
 use mathlib.Core.Option.{none, some}
 use Prim.Native.Nat.{ℕ, suc, _+_, _-_, _*_, _≤_, _<_}
 use native.Mathlib.Omega.{arith}
-use borrow.Author.Tests.{eqb-true, eq-eqb, ne-eqb}
+use borrow.Author.Tests.{eq-eqb, ne-eqb}
 use lib.Dec.{eqb}
 use lib.ListN.{length, getD, take, drop, length-append, drop-of-length-le}
 use lib.Seq.{drop-cons}
@@ -13,24 +13,24 @@ use Rattle.laws.specs.Cases.{byBool}
 use Rattle.rules.specs.Characters.{byte}
 use Rattle.rules.specs.Refusals.{mostBlocks, mostPlaces, mostOrders}
 use Rattle.rules.specs.Commands.{mult, Block, block, placesOf, allPlaces}
-use Rattle.rules.specs.Records.{blockTag, bytesOf, many, blockFields, kindOfByte}
+use Rattle.rules.specs.Records.{blockTag, many, blockFields, kindOfByte}
 use Rattle.rules.specs.Orders.{blockCount}
-use Rattle.record_walk.specs.Fields.{fits}
-use Rattle.record_walk.specs.Fronts.{headTag, front, before, several}
-use Rattle.record_walk.specs.Runs.{bytesIn}
+use Rattle.record_walk.specs.declared.Found.{Found}
+use Rattle.record_walk.specs.declared.Found.the-variants.{Field, Nothing}
+use Rattle.record_walk.specs.Fields.{fits, fieldAt}
+use Rattle.record_walk.specs.Fronts.{headTag, before, several}
 use Rattle.record_walk.specs.Spans.{size, placeSpans, blockHead, blockSpans}
-use Rattle.record_walk.proofs.WalkLaws.{IsField, tag-inside}
-use Rattle.rules.proofs.FieldLaws.{bytes-append, many-append}
-use Rattle.record_walk.proofs.SeveralLaws.{before-nil, going-end, going-full, going-bad, going-more}
+use Rattle.record_walk.proofs.RunLaws.{size-append}
+use Rattle.record_walk.proofs.WalkLaws.{Lettered, lettered, nothing-there, tag-inside}
+use Rattle.rules.proofs.FieldLaws.{many-append}
+use Rattle.record_walk.proofs.FrontLaws.{before-nil, going-end, going-full, going-bad, going-more}
 use Rattle.judge_place.specs.Places.{isTag}
-use Rattle.judge.specs.Blocks.{places, isKind, Before, nextBlock, withBlock, someBlocks, blocks}
+use Rattle.judge.specs.Blocks.{places, isKind, nextBlock, withBlock, someBlocks, blocks}
 use Rattle.judge.specs.Judged.{perPlace, rowLength, PlacesAre, IsPlaces, BlockIs, IsBlock, BlocksAre}
+use Rattle.judge.proofs.RecordBytes.{state}
 use Rattle.judge.proofs.SpanLaws.{block-spans-more}
 use Rattle.judge.specs.declared.Places.{Places}
 use Rattle.judge.specs.declared.Places.the-variants.{Are, Bad as NoPlaces}
-
-abbrev state : ℕ → ℕ → Before
-state n o = record { places = n; orders = o }
 
 -- ---- one block
 
@@ -49,39 +49,39 @@ kind-no c h =
 pub block-inside : (rec : List ℕ) (at : ℕ) → headTag (drop at rec) ≡ blockTag → at ≤ length rec
 block-inside rec at h = omega (arith, tag-inside rec at (omega arith))
 
-pub block-gone : (n o : ℕ) (r : List ℕ) → front r ≡ none → nextBlock (state n o) r ≡ none
+pub block-gone : (rec : List ℕ) (at n o : ℕ) {r : Found} → r ≡ Nothing → r ≡ fieldAt rec at → nextBlock (state n o) (drop at rec) ≡ none
 unfolding nextBlock
-block-gone n o r e = rw e
+block-gone rec at n o e q = rw (nothing-there rec at e q)
 
-module _ {rec : List ℕ} {at t s j : ℕ} (f : IsField rec at t s j) (two : headTag (drop at rec) ≡ blockTag) where
-  one-byte : j - s ≡ 1
+module _ (rec : List ℕ) (at : ℕ) {t s j : ℕ} {r : Found} (e : r ≡ Field t s j) (q : r ≡ fieldAt rec at) (two : headTag (drop at rec) ≡ blockTag) where
+  letter : Lettered rec at t s j
   unfolding fits
-  one-byte = eqb-true (j - s) 1 (rw (f .tag ∙ two) at (f .fit))
+  letter = lettered rec at blockTag (λ n. refl) e q two
+
+  pub behind-inside : j ≤ length rec
+  behind-inside = letter .own .inside
 
   pub kind-inside : s < length rec
-  kind-inside = omega (arith, f .inside, one-byte)
-
-  kind-there : bytesIn rec s j ≡ getD rec s 0 ∷ []
-  kind-there = rw (one-byte, drop-cons rec s 0 kind-inside)
+  kind-inside = letter .here
 
   block-field : j ≡ at + blockHead
-  block-field = omega (arith, f .start, f .ends, one-byte)
+  block-field = omega (arith, letter .own .start, letter .own .ends, letter .one)
 
   pub block-no : (n o : ℕ) {y : Bool} → y ≡ isKind (getD rec s 0) → y ≡ false → nextBlock (state n o) (drop at rec) ≡ none
   unfolding nextBlock
-  block-no n o e h = rw (f .is, kind-there, kind-no (getD rec s 0) (sym e ∙ h))
+  block-no n o kind h = rw (letter .own .is, letter .content, kind-no (getD rec s 0) (sym kind ∙ h))
 
-  module _ (n o : ℕ) {y : Bool} (e : y ≡ isKind (getD rec s 0)) (h : y ≡ true) where
+  module _ (n o : ℕ) {y : Bool} (kind : y ≡ isKind (getD rec s 0)) (h : y ≡ true) where
     block-none : places (eqb (getD rec s 0) (byte "N")) (mostPlaces - n) o (drop j rec) ≡ none → nextBlock (state n o) (drop at rec) ≡ none
     unfolding nextBlock
-    block-none q = rw (f .is, kind-there, kind-yes (getD rec s 0) (sym e ∙ h), q)
+    block-none q = rw (letter .own .is, letter .content, kind-yes (getD rec s 0) (sym kind ∙ h), q)
 
     block-is : (old new : List ℕ) {n′ o′ k : ℕ} → PlacesAre (eqb (getD rec s 0) (byte "N")) rec j n o old new n′ o′ k → BlockIs rec at n o old new n′ o′ k
     unfolding nextBlock
     block-is old new p =
         record {
           b = block (eqb (getD rec s 0) (byte "N")) (p .ps);
-          is = rw (f .is, kind-there, kind-yes (getD rec s 0) (sym e ∙ h), p .is);
+          is = rw (letter .own .is, letter .content, kind-yes (getD rec s 0) (sym kind ∙ h), p .is);
           inside = p .inside;
           number = p .number;
           few = p .few;
@@ -135,15 +135,15 @@ blocks-none rec from old h =
     }
 
 module _ {rec : List ℕ} {from at left n o t : ℕ} {old row : List ℕ} (v : BlocksRead rec from old row at left n o) (e : t ≡ headTag (drop at rec)) where
-  is-block : t ≡ blockTag → isTag blockTag (headTag (drop at rec)) ≡ true
-  is-block h = subst (λ y. isTag blockTag y ≡ true) e (eq-eqb t blockTag h)
+  pub block-there : t ≡ blockTag → headTag (drop at rec) ≡ blockTag
+  block-there h = sym e ∙ h
 
   gone : someBlocks (drop from rec) ≡ none → blocks (drop from rec) ≡ none
   unfolding blocks
   gone q = rw q
 
   some-end : (t ≡ blockTag → ⊥) → someBlocks (drop from rec) ≡ some (v .done, drop at rec)
-  some-end h = going-end (isTag blockTag) nextBlock withBlock (v .done) left (state n o) (drop at rec) (v .is) (subst (λ y. isTag blockTag y ≡ false) e (ne-eqb t blockTag h))
+  some-end h = going-end (isTag blockTag) nextBlock withBlock (v .done) left (state n o) (drop at rec) (v .is) e (ne-eqb t blockTag h)
 
   pub blocks-cut : (t ≡ blockTag → ⊥) → at < length rec → blocks (drop from rec) ≡ none
   unfolding blocks
@@ -163,32 +163,27 @@ module _ {rec : List ℕ} {from at left n o t : ℕ} {old row : List ℕ} (v : B
       }
 
   pub blocks-full : t ≡ blockTag → left ≡ 0 → blocks (drop from rec) ≡ none
-  blocks-full h z = gone (going-full (isTag blockTag) nextBlock withBlock (v .done) (state n o) (drop at rec) (rw z at (v .is)) (is-block h))
+  blocks-full h z = gone (going-full (isTag blockTag) nextBlock withBlock (v .done) left (state n o) (drop at rec) (v .is) e (eq-eqb t blockTag h) z)
 
-  pub blocks-bad : (m : ℕ) → t ≡ blockTag → left ≡ suc m → nextBlock (state n o) (drop at rec) ≡ none → blocks (drop from rec) ≡ none
-  blocks-bad m h z q = gone (going-bad (isTag blockTag) nextBlock withBlock (v .done) m (state n o) (drop at rec) (rw z at (v .is)) (is-block h) q)
+  pub blocks-bad : t ≡ blockTag → (left ≡ 0 → ⊥) → (new : List ℕ) {r : Places} → r ≡ NoPlaces → IsBlock rec at n o row new r → blocks (drop from rec) ≡ none
+  blocks-bad h z new y q =
+      gone (going-bad (isTag blockTag) nextBlock withBlock (v .done) left (state n o) (drop at rec) (v .is) e (eq-eqb t blockTag h) z (subst (IsBlock rec at n o row new) y q))
 
-  pub blocks-more : (m : ℕ) {new : List ℕ} {n′ o′ k : ℕ} → t ≡ blockTag → left ≡ suc m → BlockIs rec at n o row new n′ o′ k → BlocksRead rec from old new k m n′ o′
-  blocks-more m {new} {n′} {o′} {k} h z d =
+  pub blocks-more : t ≡ blockTag → (left ≡ 0 → ⊥) → (new : List ℕ) {r : Places} {n′ o′ k : ℕ} → r ≡ Are n′ o′ k → IsBlock rec at n o row new r → BlocksRead rec from old new k (left - 1) n′ o′
+  blocks-more h z new {r} {n′} {o′} {k} y q =
+      let d : BlockIs rec at n o row new n′ o′ k = subst (IsBlock rec at n o row new) y q in
       let bs : List Block = v .done ++ (d .b ∷ []) in
-      let next : withBlock (state n o) (d .b) ≡ state n′ o′ = rw (d .number, d .orders) in
+      let one-less : left ≡ suc (left - 1) = omega arith in
+      let next : withBlock (state n o) (d .b) ≡ state n′ o′ = ap₂ state (sym (d .number)) (sym (d .orders)) in
       record {
         done = bs;
-        is = rw next at (going-more (isTag blockTag) nextBlock withBlock (v .done) m (state n o) (drop at rec) (d .b) (drop k rec) (rw z at (v .is)) (is-block h) (d .is));
+        is = rw next at (going-more (isTag blockTag) nextBlock withBlock (v .done) left (state n o) (drop at rec) (v .is) e (eq-eqb t blockTag h) one-less (d .is));
         inside = d .inside;
         number = rw (places-snoc (v .done) (d .b), length-append, ← v .number) (d .number);
         few = d .few;
         orders = d .orders ∙ rw (count-snoc (v .done) (d .b), ← v .orders);
         small = d .small;
-        ends =
-            omega (
-              arith,
-              v .ends,
-              d .ends,
-              ap length (ap bytesOf (many-append blockFields (v .done) (d .b ∷ []) ∙ ap (λ x. many blockFields (v .done) ++ x) (append-nil (blockFields (d .b))))),
-              ap length (bytes-append (many blockFields (v .done)) (blockFields (d .b))),
-              length-append (bytesOf (many blockFields (v .done))) (bytesOf (blockFields (d .b))),
-            );
+        ends = omega (arith, v .ends, d .ends, ap size (many-append blockFields (v .done) (d .b ∷ [])), size-append (many blockFields (v .done)) (blockFields (d .b) ++ []), size-append (blockFields (d .b)) []);
         long = d .long ∙ v .long;
         told =
             λ l.

@@ -1,8 +1,6 @@
-pub mod NamesLaws
 pub mod SpanLaws
 pub mod NextLaws
 pub mod PlacesLaws
 pub mod BlocksLaws
 pub mod PlacesBytes
 pub mod RecordBytes
-pub mod JudgeLaws

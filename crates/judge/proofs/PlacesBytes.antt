@@ -19,11 +19,12 @@ use Rattle.rules.proofs.CommandBack.{mult-pos}
 use Rattle.rules.proofs.Names.{block-places, block-names}
 use Rattle.rules.proofs.ValueBack.{and-both}
 use Rattle.record_walk.specs.Fronts.{headTag}
-use Rattle.record_walk.proofs.FrontLaws.{only-some, Small}
-use Rattle.record_walk.proofs.SeveralLaws.{goods, several-is, several-all}
+use Rattle.record_walk.proofs.FrontLaws.{only-some, Small, goods, several-is, several-all}
 use Rattle.judge_place.specs.Places.{isTag, onePlace}
 use Rattle.judge_place.proofs.PlaceBytes.{place-is, place-back}
 use Rattle.judge.specs.Blocks.{nextPlace, withPlace, somePlaces, mayBeBlock, places}
+
+ruleset parts = (and-l, and-r, leb-true)
 
 module _ (named : Bool) where
   -- a place that is well formed and leaves the orders within their limit
@@ -47,7 +48,8 @@ module _ (named : Bool) where
   next-back : (o : ℕ) (p : Place) (rest : List ℕ) → good o p ≡ true → ended (headTag rest) ≡ true → nextPlace named o (bytesOf (placeFields p) ++ rest) ≡ some (p, rest)
   unfolding nextPlace
   next-back o p rest h t =
-      rw (place-back named p rest (and-l (wfPlace named p) (leb (o * placeCount p) mostOrders) h) (ltb-true (headTag rest) nameTag t), and-r (wfPlace named p) (leb (o * placeCount p) mostOrders) h)
+      let few : leb (o * placeCount p) mostOrders ≡ true = search parts in
+      rw (place-back named p rest (search parts) (ltb-true (headTag rest) nameTag t), few)
 
   opens : (p : Place) (rest : List ℕ) → isTag placeTag (headTag (bytesOf (placeFields p) ++ rest)) ≡ true
   opens (place b nm v) rest = refl
@@ -60,24 +62,18 @@ module _ (named : Bool) where
   all-well : (o : ℕ) (ps : List Place) → allGood o ps ≡ true → all (wfPlace named) ps ≡ true
   all-well o [] h = refl
   all-well o (p ∷ ps) h =
-      and-both (wfPlace named p) (all (wfPlace named) ps) (and-l (wfPlace named p) (leb (o * placeCount p) mostOrders) (and-l (good o p) (allGood (o * placeCount p) ps) h))
-      (all-well (o * placeCount p) ps (and-r (good o p) (allGood (o * placeCount p) ps) h))
+      and-both (wfPlace named p) (all (wfPlace named) ps) (search parts) (all-well (o * placeCount p) ps (search parts))
 
-  all-few : (o : ℕ) (ps : List Place) → o ≤ mostOrders → allGood o ps ≡ true → o * mult (map placeCount ps) ≤ mostOrders
-  all-few o [] k h = rw mul-one k
-  all-few o (p ∷ ps) k h =
-      let m = leb-true (o * placeCount p) mostOrders (and-r (wfPlace named p) (leb (o * placeCount p) mostOrders) (and-l (good o p) (allGood (o * placeCount p) ps) h)) in
-      let ih = all-few (o * placeCount p) ps m (and-r (good o p) (allGood (o * placeCount p) ps) h) in
-      let assoc : o * (placeCount p * mult (map placeCount ps)) ≡ o * placeCount p * mult (map placeCount ps) = omega arith in
+  all-few : (o : ℕ) (p : Place) (ps : List Place) → allGood o (p ∷ ps) ≡ true → o * mult (map placeCount (p ∷ ps)) ≤ mostOrders
+  all-few o p [] h = let k : o * placeCount p ≤ mostOrders = search parts in rw mul-one k
+  all-few o p (q ∷ ps) h =
+      let ih = all-few (o * placeCount p) q ps (search parts) in
+      let assoc : o * mult (map placeCount (p ∷ q ∷ ps)) ≡ o * placeCount p * mult (map placeCount (q ∷ ps)) = omega arith in
       rw assoc ih
 
   some-few : (o : ℕ) (ps : List Place) → not (isNil ps) ≡ true → allGood o ps ≡ true → o * mult (map placeCount ps) ≤ mostOrders
   some-few o [] n h = absurd (false≢true n)
-  some-few o (p ∷ ps) n h =
-      let m = leb-true (o * placeCount p) mostOrders (and-r (wfPlace named p) (leb (o * placeCount p) mostOrders) (and-l (good o p) (allGood (o * placeCount p) ps) h)) in
-      let ih = all-few (o * placeCount p) ps m (and-r (good o p) (allGood (o * placeCount p) ps) h) in
-      let assoc : o * (placeCount p * mult (map placeCount ps)) ≡ o * placeCount p * mult (map placeCount ps) = omega arith in
-      rw assoc ih
+  some-few o (p ∷ ps) n h = all-few o p ps h
 
   all-good : (o : ℕ) (ps : List Place) → all (wfPlace named) ps ≡ true → o * mult (map placeCount ps) ≤ mostOrders → allGood o ps ≡ true
   all-good o [] h m = refl
@@ -87,16 +83,12 @@ module _ (named : Bool) where
       let assoc : o * (placeCount p * r) ≡ c * r = omega arith in
       let m′ : c * r ≤ mostOrders = rw assoc at m in
       let few : c ≤ mostOrders = omega (arith, mul-le-mul-left c (mult-pos ps)) in
-      and-both (good o p) (allGood c ps) (and-both (wfPlace named p) (leb c mostOrders) (and-l (wfPlace named p) (all (wfPlace named) ps) h) (le-leb c mostOrders few))
-      (all-good c ps (and-r (wfPlace named p) (all (wfPlace named) ps) h) m′)
+      and-both (good o p) (allGood c ps) (and-both (wfPlace named p) (leb c mostOrders) (search parts) (le-leb c mostOrders few)) (all-good c ps (search parts) m′)
 
   -- ---- all places
 
   block-some : (ps : List Place) → wfBlock (block named ps) ≡ true → not (isNil ps) ≡ true
-  block-some ps h =
-      let a : Bool = all (wfPlace named) ps in
-      let d : Bool = not named || namesDiffer (map placeName ps) in
-      and-l (not (isNil ps)) a (and-l (not (isNil ps) && a) d h)
+  block-some ps h = search parts
 
   pub record PlacesWrote (n o : ℕ) (r : List ℕ) (ps : List Place) (r′ : List ℕ) : Type 0 where
     pub some-there : not (isNil ps) ≡ true
@@ -112,11 +104,11 @@ module _ (named : Bool) where
       only-some (mayBeBlock named) (somePlaces named n o r) ps r′ e
       (λ b k.
       let w = several-is (isTag placeTag) (nextPlace named) withPlace good placeFields next-is n o r ps r′ s k in
-      let t : not (isNil ps) ≡ true = and-l (not (isNil ps)) (not named || namesDiffer (map placeName ps)) b in
+      let t : not (isNil ps) ≡ true = search parts in
       record {
         some-there = t;
         well = all-well o ps (w .well);
-        names = and-r (not (isNil ps)) (not named || namesDiffer (map placeName ps)) b;
+        names = search parts;
         few = w .few;
         orders = some-few o ps t (w .well);
         bytes = w .bytes;

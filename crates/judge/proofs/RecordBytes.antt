@@ -9,7 +9,7 @@ use native.Mathlib.Nat.{mul-one, mul-le-mul-left}
 use native.Mathlib.Omega.{arith}
 use borrow.Author.Tests.{eqb-true, le-leb, leb-true, ltb-true, not-true}
 use lib.Dec.{leb, ltb}
-use lib.ListN.{length, length-append}
+use lib.ListN.{length, length-append, drop, length-drop}
 use Rattle.laws.specs.Cases.{pick, byBool, some-inj, none≢some, and-l, and-r}
 use Rattle.laws.specs.Lists.{all, isNil, eqL, eqL-is}
 use Rattle.rules.specs.Refusals.{ok, bad, notWellFormed, moreOfCode, mostBlocks, mostPlaces, mostOrders}
@@ -27,13 +27,20 @@ use Rattle.rules.proofs.EncodeDecode.{IsRecord, record-is, record-at}
 use Rattle.rules.proofs.FieldLaws.{bytes-append}
 use Rattle.record_walk.specs.Fields.{fits}
 use Rattle.record_walk.specs.Fronts.{Read, andThen, made, headTag, front}
-use Rattle.record_walk.proofs.FrontLaws.{then-some, made-some, Small, small-behind, cut-is, front-is, front-field}
-use Rattle.record_walk.proofs.SeveralLaws.{goods, Wrote, several-is, several-all}
+use Rattle.record_walk.proofs.FrontLaws.{then-some, made-some, Small, small-behind, cut-is, front-is, front-field, goods, Wrote, several-is, several-all}
 use Rattle.judge_place.specs.Places.{isTag, pieces}
 use Rattle.judge_place.proofs.PieceBytes.{first-name, pieces-is, pieces-back}
 use Rattle.judge.specs.Blocks.{places, kindIn, Before, nextBlock, withBlock, noneBefore, someBlocks, ending, blocks, withBlocks, withCode, recordIn}
-use Rattle.judge.specs.Judged.{mostTold}
+use Rattle.judge.specs.Judged.{mostTold, IsBlocks, Judges}
 use Rattle.judge.proofs.PlacesBytes.{PlacesWrote, places-is, places-back}
+use Rattle.rules.specs.declared.Answer.the-variants.{Done, Refused}
+use Rattle.rules.specs.Answers.{Counts, counting}
+use Rattle.record_walk.specs.Spans.{size, blockSpans, spansOf}
+use Rattle.judge_place.specs.Judging.{PiecesAre, IsPieces}
+use Rattle.judge_place.specs.declared.Pieces.{Pieces}
+use Rattle.judge_place.specs.declared.Pieces.the-variants.{Are, Bad as NoPieces}
+use Rattle.judge.specs.declared.Judged.{Judged}
+use Rattle.judge.specs.declared.Judged.the-variants.{Good, Bad}
 
 -- ---- one block
 
@@ -44,16 +51,17 @@ good s b = wfBlock b && leb (s .places + length (placesOf b)) mostPlaces && leb 
 abbrev allGood : Before → List Block → Bool
 allGood s bs = goods (isTag blockTag) nextBlock withBlock good blockFields s bs
 
+ruleset parts = (and-l, and-r, leb-true)
+
 module _ (s : Before) (b : Block) (h : good s b ≡ true) where
   g-well : wfBlock b ≡ true
-  g-well = and-l (wfBlock b) (leb (s .places + length (placesOf b)) mostPlaces) (and-l (wfBlock b && leb (s .places + length (placesOf b)) mostPlaces) (leb (s .orders * blockCount b) mostOrders) h)
+  g-well = search parts
 
   g-places : s .places + length (placesOf b) ≤ mostPlaces
-  g-places = leb-true (s .places + length (placesOf b)) mostPlaces
-      (and-r (wfBlock b) (leb (s .places + length (placesOf b)) mostPlaces) (and-l (wfBlock b && leb (s .places + length (placesOf b)) mostPlaces) (leb (s .orders * blockCount b) mostOrders) h))
+  g-places = search parts
 
   g-orders : s .orders * blockCount b ≤ mostOrders
-  g-orders = leb-true (s .orders * blockCount b) mostOrders (and-r (wfBlock b && leb (s .places + length (placesOf b)) mostPlaces) (leb (s .orders * blockCount b) mostOrders) h)
+  g-orders = search parts
 
 good-of : (s : Before) (b : Block) → wfBlock b ≡ true → s .places + length (placesOf b) ≤ mostPlaces → s .orders * blockCount b ≤ mostOrders → good s b ≡ true
 good-of s b h k m = rw (h, le-leb (s .places + length (placesOf b)) mostPlaces k, le-leb (s .orders * blockCount b) mostOrders m)
@@ -127,26 +135,24 @@ closes (block k ps) rest = refl
 
 -- ---- the blocks
 
-abbrev state : ℕ → ℕ → Before
+abbrev pub state : ℕ → ℕ → Before
 state n o = record { places = n; orders = o }
 
 all-well : (s : Before) (bs : List Block) → allGood s bs ≡ true → all wfBlock bs ≡ true
 all-well s [] h = refl
 all-well s (b ∷ bs) h =
-    and-both (wfBlock b) (all wfBlock bs) (g-well s b (and-l (good s b) (allGood (withBlock s b) bs) h)) (all-well (withBlock s b) bs (and-r (good s b) (allGood (withBlock s b) bs) h))
+    and-both (wfBlock b) (all wfBlock bs) (search parts) (all-well (withBlock s b) bs (search parts))
 
 all-places : (n o : ℕ) (bs : List Block) → n ≤ mostPlaces → allGood (state n o) bs ≡ true → n + length (allPlaces bs) ≤ mostPlaces
 all-places n o [] k h = omega arith
 all-places n o (b ∷ bs) k h =
-    let s : Before = state n o in
-    let ih = all-places (n + length (placesOf b)) (o * blockCount b) bs (g-places s b (and-l (good s b) (allGood (withBlock s b) bs) h)) (and-r (good s b) (allGood (withBlock s b) bs) h) in
+    let ih = all-places (n + length (placesOf b)) (o * blockCount b) bs (search parts) (search parts) in
     omega (arith, length-append (placesOf b) (allPlaces bs))
 
 all-orders : (n o : ℕ) (bs : List Block) → o ≤ mostOrders → allGood (state n o) bs ≡ true → o * mult (map blockCount bs) ≤ mostOrders
 all-orders n o [] k h = rw mul-one k
 all-orders n o (b ∷ bs) k h =
-    let s : Before = state n o in
-    let ih = all-orders (n + length (placesOf b)) (o * blockCount b) bs (g-orders s b (and-l (good s b) (allGood (withBlock s b) bs) h)) (and-r (good s b) (allGood (withBlock s b) bs) h) in
+    let ih = all-orders (n + length (placesOf b)) (o * blockCount b) bs (search parts) (search parts) in
     let assoc : o * (blockCount b * mult (map blockCount bs)) ≡ o * blockCount b * mult (map blockCount bs) = omega arith in
     rw assoc ih
 
@@ -161,8 +167,7 @@ all-good n o (b ∷ bs) h k m =
     let pos : 0 < r = rw (count-all bs) (mult-pos (allPlaces bs)) in
     let few : c ≤ mostOrders = omega (arith, mul-le-mul-left c pos) in
     let l = length-append (placesOf b) (allPlaces bs) in
-    and-both (good s b) (allGood (withBlock s b) bs) (good-of s b (and-l (wfBlock b) (all wfBlock bs) h) (omega arith) few)
-    (all-good (n + length (placesOf b)) c bs (and-r (wfBlock b) (all wfBlock bs) h) (omega arith) m′)
+    and-both (good s b) (allGood (withBlock s b) bs) (good-of s b (search parts) (omega arith) few) (all-good (n + length (placesOf b)) c bs (search parts) (omega arith) m′)
 
 -- ---- the record
 
@@ -256,3 +261,65 @@ long-refused r n =
 pub record-refused : (r : List ℕ) → recordIn r ≡ none → recordOf r ≡ bad notWellFormed 0
 unfolding recordOf
 record-refused r e = refused r (decode r) (λ c h. none≢some {a = c} (sym e ∙ record-back r c h))
+
+-- ---- the judge's answers are the rules'
+
+abbrev IsCode : List ℕ → Pieces → Type 0
+IsCode rec r = IsPieces codeTag false (suc moreOfCode) rec 0 r
+
+pub code-gone : (rec : List ℕ) {r : Pieces} → r ≡ NoPieces → IsCode rec r → recordOf rec ≡ bad notWellFormed 0
+unfolding recordIn
+code-gone rec e j = record-refused rec (rw (subst (IsCode rec) e j))
+
+module _ (rec : List ℕ) {n k : ℕ} {r : Pieces} (e : r ≡ Are n k) (j : IsCode rec r) where
+  g : PiecesAre codeTag false (suc moreOfCode) rec 0 n k
+  g = subst (IsCode rec) e j
+
+  pub code-inside : k ≤ length rec
+  code-inside = g .inside
+
+  pub code-empty : n ≡ 0 → recordOf rec ≡ bad notWellFormed 0
+  unfolding recordIn
+  code-empty z = record-refused rec (go (g .ws) (sym (g .count) ∙ z) (g .is))
+    where
+      go : (ws : List (List ℕ)) → length ws ≡ 0 → pieces codeTag false (suc moreOfCode) rec ≡ some (ws, drop k rec) → recordIn rec ≡ none
+      go [] l q = rw q
+      go (w ∷ ws) l q = absurd (omega arith)
+
+  has-code : (n ≡ 0 → ⊥) → isNil (g .ws) ≡ false
+  has-code z = go (g .ws) (g .count)
+    where
+      go : (ws : List (List ℕ)) → n ≡ length ws → isNil ws ≡ false
+      go [] l = absurd (z l)
+      go (w ∷ ws) l = refl
+
+  -- the blocks begin behind the code
+  code-ends : Small rec → k ≡ size (map (λ w. field codeTag w) (g .ws))
+  code-ends s =
+      let w = code-is rec (g .ws) (drop k rec) s (g .is) in
+      omega (arith, ap length (w .1), length-append (bytesOf (map (λ x. field codeTag x) (g .ws))) (drop k rec), length-drop k rec, g .inside)
+
+  pub judged-as : Small rec → (n ≡ 0 → ⊥) → (old new : List ℕ) (r : Judged) → IsBlocks rec k old new r → Judges rec old new r
+  unfolding recordIn spansOf
+  judged-as s z old new (Good p t) b =
+      record {
+        tree = command (g .ws) (b .bs);
+        is = record-read rec (command (g .ws) (b .bs)) s (rw (g .is, has-code z, b .is));
+        places = b .places;
+        few = b .few;
+        total = b .total;
+        long = b .long;
+        told = λ l. b .told l ∙ ap (λ (x : ℕ). blockSpans x (b .bs)) (code-ends s);
+      }
+  judged-as s z old new Bad b = record-refused rec (rw (g .is, has-code z, b))
+
+-- ---- count
+
+module _ (rec old new : List ℕ) {r : Judged} where
+  pub counts-good : {n t : ℕ} → r ≡ Good n t → Judges rec old new r → Counts rec (Done t)
+  unfolding counting
+  counts-good e j = let g = subst (Judges rec old new) e j in rw (g .is) (ap Done (g .total))
+
+  pub counts-bad : r ≡ Bad → Judges rec old new r → Counts rec (Refused notWellFormed 0)
+  unfolding counting
+  counts-bad e j = rw (subst (Judges rec old new) e j)

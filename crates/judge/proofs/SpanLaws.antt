@@ -1,21 +1,24 @@
 -- The row of numbers: a place's three numbers stand behind those of the places before it, and these are where the values stand.
 use mathlib.Core.Path.{_≡_, refl, sym, ap, _∙_}
 use mathlib.Core.List.{List, [], _∷_, _++_, append-assoc, append-nil}
-use Prim.Native.Nat.{ℕ, suc, _+_, _*_, _≤_, _<_}
+use Prim.Native.Nat.{ℕ, suc, _+_, _*_, _%_, _≤_, _<_}
 use native.Mathlib.Omega.{arith}
 use borrow.Author.Tests.{lt-ltb, le-ltb}
 use lib.Dec.{ltb}
-use lib.ListN.{length, take, set, length-append, length-set}
+use lib.ListN.{length, take, set, length-set}
 use lib.Seq.{take-suc-set}
 use Rattle.laws.specs.Cases.{pick-all}
 use Rattle.rules.specs.Refusals.{mostPlaces}
 use Rattle.rules.specs.Commands.{Place, Block, block, placesOf}
-use Rattle.rules.specs.Records.{bytesOf, many, placeFields, blockFields}
-use Rattle.rules.proofs.FieldLaws.{bytes-append}
+use Rattle.rules.specs.Records.{many, placeFields, blockFields}
+use Rattle.record_walk.proofs.RunLaws.{size-append}
 use Rattle.record_walk.specs.Spans.{size, headFields, argumentsOf, placeSpans, blockHead, blockSpans}
 use Rattle.judge.specs.Judged.{perPlace, rowLength, toldAt}
 
 -- ---- the row
+
+pub row-threes : (old row : List ℕ) → length row ≡ length old → length old % perPlace ≡ 0 → length row % perPlace ≡ 0
+row-threes old row e h = ap (λ (x : ℕ). x % perPlace) e ∙ h
 
 module _ (row : List ℕ) (p a b c : ℕ) where
   pub told-yes : {i : ℕ} → i ≡ perPlace * p → i < length row → set (set (set row i a) (i + 1) b) (i + 2) c ≡ toldAt row p a b c
@@ -59,8 +62,7 @@ pub spans-more : (at : ℕ) (ps : List Place) (p : Place) {e : ℕ} → e ≡ at
 spans-more at [] p {e} h = let z : e ≡ at = omega arith in rw z
 spans-more at (q ∷ ps) p {e} h =
     let n : ℕ = at + size (placeFields q) in
-    let w : e ≡ n + size (many placeFields ps) =
-    omega (arith, ap length (bytes-append (placeFields q) (many placeFields ps)), length-append (bytesOf (placeFields q)) (bytesOf (many placeFields ps))) in
+    let w : e ≡ n + size (many placeFields ps) = omega (arith, size-append (placeFields q) (many placeFields ps)) in
     ap (λ (l : List ℕ). argumentsOf q ∷ (at + size (headFields q)) ∷ n ∷ l) (spans-more n ps p w)
 
 pub block-spans-more : (at : ℕ) (bs : List Block) (b : Block) {e : ℕ} → e ≡ at + size (many blockFields bs)
@@ -68,7 +70,6 @@ pub block-spans-more : (at : ℕ) (bs : List Block) (b : Block) {e : ℕ} → e 
 block-spans-more at [] (block k ps) {e} h = let z : e ≡ at = omega arith in rw z (append-nil (placeSpans (at + blockHead) ps))
 block-spans-more at (block k ps ∷ bs) b {e} h =
     let n : ℕ = at + size (blockFields (block k ps)) in
-    let w : e ≡ n + size (many blockFields bs) =
-    omega (arith, ap length (bytes-append (blockFields (block k ps)) (many blockFields bs)), length-append (bytesOf (blockFields (block k ps))) (bytesOf (many blockFields bs))) in
+    let w : e ≡ n + size (many blockFields bs) = omega (arith, size-append (blockFields (block k ps)) (many blockFields bs)) in
     ap (λ (l : List ℕ). placeSpans (at + blockHead) ps ++ l) (block-spans-more n bs b w)
     ∙ sym (append-assoc (placeSpans (at + blockHead) ps) (blockSpans n bs) (placeSpans (e + blockHead) (placesOf b)))

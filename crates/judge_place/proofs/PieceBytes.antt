@@ -1,5 +1,5 @@
 -- Pieces that were read from the front of bytes are well formed and written to the same bytes again; and well-formed pieces are read back from their fields.
-use mathlib.Core.Path.{_≡_, refl, sym, ap, ap₂, _∙_}
+use mathlib.Core.Path.{_≡_, refl, sym, ap, _∙_}
 use mathlib.Core.Bool.{Bool, true, false, _&&_, _||_, false≢true}
 use mathlib.Core.List.{List, [], _∷_, _++_, map, append-nil}
 use mathlib.Core.Option.{some}
@@ -16,9 +16,8 @@ use Rattle.rules.specs.WellFormed.{short, wfPieces}
 use Rattle.rules.proofs.ValueBack.{and-both}
 use Rattle.record_walk.specs.Fields.{fits, wordLength}
 use Rattle.record_walk.specs.Fronts.{andThen, headTag, front}
-use Rattle.record_walk.proofs.FrontLaws.{then-some, only-some, Small, cut-is, front-is, front-field}
+use Rattle.record_walk.proofs.FrontLaws.{then-some, only-some, Small, cut-is, front-is, front-field, goods, several-is, several-all}
 use Rattle.rules.proofs.FieldLaws.{many-map}
-use Rattle.record_walk.proofs.SeveralLaws.{goods, several-is, several-all}
 use Rattle.judge_place.specs.Places.{mayBePiece, content, piece, isTag, nextPiece, pieces}
 
 or-none : (a : Bool) → a || false ≡ a
@@ -30,9 +29,7 @@ pub first-name : (w : List ℕ) → mayBePiece false w ≡ isIdentifier w
 unfolding mayBePiece
 first-name w = or-none (isIdentifier w)
 
-all-alike : {A : Type 0} (f g : A → Bool) → ((a : A) → f a ≡ g a) → (xs : List A) → all f xs ≡ all g xs
-all-alike f g h [] = refl
-all-alike f g h (x ∷ xs) = ap₂ (λ a b. a && b) (h x) (all-alike f g h xs)
+ruleset parts = (and-l, and-r, leb-true)
 
 -- pieces of one tag, whose lengths are words'; g says which words may stand behind the first
 module _ (t : ℕ) (names : Bool) (g : List ℕ → Bool) (words : (n : ℕ) → fits t n ≡ wordLength n) (same : (w : List ℕ) → mayBePiece names w ≡ g w) where
@@ -88,36 +85,28 @@ module _ (t : ℕ) (names : Bool) (g : List ℕ → Bool) (words : (n : ℕ) →
   later-well : (ws : List (List ℕ)) → allGood names ws ≡ true → (all g ws ≡ true) × (all short ws ≡ true)
   later-well [] h = (refl, refl)
   later-well (w ∷ ws) h =
-      let gw : good names w ≡ true = and-l (good names w) (allGood names ws) h in
-      let ih = later-well ws (and-r (good names w) (allGood names ws) h) in
-      (and-both (g w) (all g ws) (sym (same w) ∙ and-l (mayBePiece names w) (fits t (length w)) gw) (ih .0), and-both (short w) (all short ws) (good-short names w gw) (ih .1))
+      let piece-there : mayBePiece names w ≡ true = search parts in
+      let ih = later-well ws (search parts) in
+      (and-both (g w) (all g ws) (sym (same w) ∙ piece-there) (ih .0), and-both (short w) (all short ws) (good-short names w (search parts)) (ih .1))
 
   later-good : (ws : List (List ℕ)) → all g ws ≡ true → all short ws ≡ true → allGood names ws ≡ true
   later-good [] h k = refl
   later-good (w ∷ ws) h k =
-      and-both (good names w) (allGood names ws) (good-of names w (same w ∙ and-l (g w) (all g ws) h) (and-l (short w) (all short ws) k))
-      (later-good ws (and-r (g w) (all g ws) h) (and-r (short w) (all short ws) k))
+      and-both (good names w) (allGood names ws) (good-of names w (same w ∙ and-l (g w) (all g ws) h) (search parts)) (later-good ws (search parts) (search parts))
 
   pieces-well : (most : ℕ) (ws : List (List ℕ)) → length ws ≤ suc most → allGood false ws ≡ true → isNil ws || wfPieces g most ws ≡ true
   pieces-well most [] n h = refl
   pieces-well most (w ∷ ws) n h =
-      let gw : good false w ≡ true = and-l (good false w) (allGood names ws) h in
-      let l = later-well ws (and-r (good false w) (allGood names ws) h) in
-      rw (← first-name w, and-l (mayBePiece false w) (fits t (length w)) gw, l .0, le-leb (length ws) most (omega arith), good-short false w gw, l .1)
+      let piece-there : mayBePiece false w ≡ true = search parts in
+      let l = later-well ws (search parts) in
+      rw (← first-name w, piece-there, l .0, le-leb (length ws) most (omega arith), good-short false w (search parts), l .1)
 
   pieces-good : (most : ℕ) (ws : List (List ℕ)) → isNil ws || wfPieces g most ws ≡ true → (length ws ≤ suc most) × (allGood false ws ≡ true)
   pieces-good most [] h = (omega arith, refl)
   pieces-good most (w ∷ ws) h =
-      let i : Bool = isIdentifier w in
-      let s : Bool = all short (w ∷ ws) in
-      let h1 : i && all g ws && leb (length ws) most ≡ true = and-l (i && all g ws && leb (length ws) most) s h in
-      let h2 : i && all g ws ≡ true = and-l (i && all g ws) (leb (length ws) most) h1 in
-      let hs : s ≡ true = and-r (i && all g ws && leb (length ws) most) s h in
-      let n = leb-true (length ws) most (and-r (i && all g ws) (leb (length ws) most) h1) in (
-        omega arith,
-        and-both (good false w) (allGood names ws) (good-of false w (first-name w ∙ and-l i (all g ws) h2) (and-l (short w) (all short ws) hs))
-            (later-good ws (and-r i (all g ws) h2) (and-r (short w) (all short ws) hs)),
-      )
+      let few : length ws ≤ most = search parts in
+      let first : isIdentifier w ≡ true = search parts in
+      (omega arith, and-both (good false w) (allGood names ws) (good-of false w (first-name w ∙ first) (search parts)) (later-good ws (search parts) (search parts)))
 
   -- ---- all pieces
 

@@ -1,9 +1,9 @@
 -- Pieces from the front: each turn of the loop over pieces reads one more.
-use mathlib.Core.Path.{_≡_, refl, subst}
+use mathlib.Core.Path.{_≡_, refl}
 use mathlib.Core.Bool.{Bool, true, false, _||_, _&&_}
 use mathlib.Core.List.{List, [], _∷_, _++_}
 use mathlib.Core.Option.{none, some}
-use Prim.Native.Nat.{ℕ, suc, _+_, _-_, _≤_}
+use Prim.Native.Nat.{ℕ, _+_, _-_, _≤_}
 use native.Mathlib.Omega.{arith}
 use borrow.Author.Tests.{eq-eqb, ne-eqb}
 use lib.ListN.{length, drop, length-append}
@@ -11,10 +11,13 @@ use Rattle.laws.specs.Lists.{all, allAt}
 use Rattle.rules.specs.Characters.{isDigit}
 use Rattle.rules.specs.Units.{isIdentifier}
 use Rattle.rules.specs.Commands.{isIndexNumber}
-use Rattle.record_walk.specs.Fronts.{headTag, front, before, several}
+use Rattle.record_walk.specs.declared.Found.{Found}
+use Rattle.record_walk.specs.declared.Found.the-variants.{Nothing}
+use Rattle.record_walk.specs.Fields.{fieldAt}
+use Rattle.record_walk.specs.Fronts.{headTag, before, several}
 use Rattle.record_walk.specs.Runs.{bytesIn}
-use Rattle.record_walk.proofs.WalkLaws.{IsField}
-use Rattle.record_walk.proofs.SeveralLaws.{before-nil, going-end, going-full, going-bad, going-more}
+use Rattle.record_walk.proofs.WalkLaws.{IsField, nothing-there}
+use Rattle.record_walk.proofs.FrontLaws.{before-nil, going-end, going-full, going-bad, going-more}
 use Rattle.judge_place.specs.Places.{mayBePiece, piece, isTag, nextPiece, pieces}
 use Rattle.judge_place.specs.Judging.{PiecesAre}
 
@@ -55,9 +58,9 @@ module _ (index : Bool) {rec : List ℕ} {at t s k : ℕ} {g : Bool} (f : IsFiel
   unfolding piece
   piece-no h = rw (f .is, ← e, h)
 
-pub piece-gone : (index : Bool) (r : List ℕ) → front r ≡ none → piece index r ≡ none
+pub piece-gone : (index : Bool) (rec : List ℕ) (at : ℕ) {r : Found} → r ≡ Nothing → r ≡ fieldAt rec at → piece index (drop at rec) ≡ none
 unfolding piece
-piece-gone index r e = rw e
+piece-gone index rec at e q = rw (nothing-there rec at e q)
 
 -- ---- the loop
 
@@ -73,30 +76,27 @@ pieces-none t names most rec from h =
     record { done = []; is = before-nil (pieces t names most (drop from rec)); inside = h; count = omega arith }
 
 module _ {t most from at left x : ℕ} {names index : Bool} {rec : List ℕ} (v : PiecesRead t names most rec from at left index) (e : x ≡ headTag (drop at rec)) where
-  same-tag : x ≡ t → isTag t (headTag (drop at rec)) ≡ true
-  same-tag h = subst (λ y. isTag t y ≡ true) e (eq-eqb x t h)
-
   pub pieces-end : (x ≡ t → ⊥) → PiecesAre t names most rec from (most - left) at
   pieces-end h =
       record {
         ws = v .done;
-        is = going-end (isTag t) piece (nextPiece names) (v .done) left index (drop at rec) (v .is) (subst (λ y. isTag t y ≡ false) e (ne-eqb x t h));
+        is = going-end (isTag t) piece (nextPiece names) (v .done) left index (drop at rec) (v .is) e (ne-eqb x t h);
         inside = v .inside;
         count = omega (arith, v .count);
       }
 
   pub pieces-full : x ≡ t → left ≡ 0 → pieces t names most (drop from rec) ≡ none
-  pieces-full h z = going-full (isTag t) piece (nextPiece names) (v .done) index (drop at rec) (rw z at (v .is)) (same-tag h)
+  pieces-full h z = going-full (isTag t) piece (nextPiece names) (v .done) left index (drop at rec) (v .is) e (eq-eqb x t h) z
 
-  pub pieces-bad : (m : ℕ) → x ≡ t → left ≡ suc m → piece index (drop at rec) ≡ none → pieces t names most (drop from rec) ≡ none
-  pieces-bad m h z q = going-bad (isTag t) piece (nextPiece names) (v .done) m index (drop at rec) (rw z at (v .is)) (same-tag h) q
+  pub pieces-bad : x ≡ t → (left ≡ 0 → ⊥) → piece index (drop at rec) ≡ none → pieces t names most (drop from rec) ≡ none
+  pieces-bad h z q = going-bad (isTag t) piece (nextPiece names) (v .done) left index (drop at rec) (v .is) e (eq-eqb x t h) z q
 
-  pub pieces-more : (m : ℕ) {u s k : ℕ} → x ≡ t → left ≡ suc m → IsField rec at u s k → piece index (drop at rec) ≡ some (bytesIn rec s k, drop k rec)
-      → PiecesRead t names most rec from k m names
-  pieces-more m {u} {s} {k} h z f q =
+  pub pieces-more : {u s k : ℕ} → x ≡ t → (left ≡ 0 → ⊥) → IsField rec at u s k → piece index (drop at rec) ≡ some (bytesIn rec s k, drop k rec)
+      → PiecesRead t names most rec from k (left - 1) names
+  pieces-more {u} {s} {k} h z f q =
       record {
         done = v .done ++ (bytesIn rec s k ∷ []);
-        is = going-more (isTag t) piece (nextPiece names) (v .done) m index (drop at rec) (bytesIn rec s k) (drop k rec) (rw z at (v .is)) (same-tag h) q;
+        is = going-more (isTag t) piece (nextPiece names) (v .done) left index (drop at rec) (v .is) e (eq-eqb x t h) (omega arith) q;
         inside = f .inside;
         count = omega (arith, v .count, length-append (v .done) (bytesIn rec s k ∷ []));
       }

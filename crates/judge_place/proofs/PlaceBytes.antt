@@ -1,6 +1,6 @@
 -- A place that was read from the front of bytes is well formed and written to the same bytes again; and a well-formed place is read back from its fields.
 use mathlib.Core.Path.{_≡_, refl, sym, ap, _∙_, subst}
-use mathlib.Core.Bool.{Bool, true, false, _&&_, _||_, not, false≢true}
+use mathlib.Core.Bool.{Bool, true, false, _||_, false≢true}
 use mathlib.Core.List.{List, [], _∷_, _++_, map, append-assoc}
 use mathlib.Core.Option.{some}
 use Prim.Native.Nat.{ℕ, suc, _<_}
@@ -26,6 +26,8 @@ use Rattle.judge_unit.proofs.UnitBytes.{base-letter}
 use Rattle.judge_value.proofs.ValueBytes.{value-is, value-back}
 use Rattle.judge_place.specs.Places.{mayBePiece, isTag, pieces, behindName, baseIn, agrees, parts, onePlace}
 use Rattle.judge_place.proofs.PieceBytes.{pieces-is, pieces-back}
+
+ruleset tests = (and-l, and-r)
 
 -- ---- name and value
 
@@ -65,11 +67,8 @@ place-well false b nm v a h k = rw (a, k)
 place-names : (named : Bool) (b : Base) (nm : List (List ℕ)) (v : List Element) → wfPlace named (place b nm v) ≡ true
     → (agrees named (place b nm v) ≡ true) × (isNil nm || wfPieces isPiece moreOfName nm ≡ true)
 place-names true b [] v h = absurd (false≢true h)
-place-names true b (w ∷ nm) v h =
-    let p : Bool = wfPieces isPiece moreOfName (w ∷ nm) in
-    let h1 : p && not (isNil v) ≡ true = and-l (p && not (isNil v)) (wfValue b v) h in
-    (and-r p (not (isNil v)) h1, and-l p (not (isNil v)) h1)
-place-names false b nm v h = let n : isNil nm ≡ true = and-l (isNil nm) (wfValue b v) h in (n, rw n)
+place-names true b (w ∷ nm) v h = (search tests, search tests)
+place-names false b nm v h = let n : isNil nm ≡ true = search tests in (n, rw n)
 
 behind-back : (named : Bool) (b : Base) (nm : Name) (v : List Element) (rest : List ℕ) → wfPlace named (place b nm v) ≡ true → isTag nameTag (headTag rest) ≡ false
     → behindName named (bytesOf (map (λ w. field nameTag w) nm) ++ rest) ≡ some (nm, rest)

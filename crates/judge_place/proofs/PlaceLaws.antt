@@ -4,12 +4,10 @@ use mathlib.Core.Bool.{Bool, true, false, _&&_, not, false≢true}
 use mathlib.Core.List.{List, [], _∷_, _++_, map}
 use mathlib.Core.Option.{none, some}
 use Prim.Native.Nat.{ℕ, suc, _+_, _-_, _≤_, _<_}
-use native.Mathlib.Nat.{add-zero}
 use native.Mathlib.Omega.{arith}
 use borrow.Author.Tests.{eqb-true, ne-eqb}
 use lib.Dec.{eqb}
 use lib.ListN.{length, getD, drop, length-append, length-drop}
-use lib.Seq.{getD-take, getD-drop}
 use Rattle.laws.specs.Cases.{pick, byBool, some-inj}
 use Rattle.laws.specs.Lists.{isNil}
 use Rattle.rules.specs.Characters.{byte}
@@ -17,15 +15,18 @@ use Rattle.rules.specs.Units.{Base, baseOf, baseAt}
 use Rattle.rules.specs.Commands.{Name, Element, place, terms, sum}
 use Rattle.rules.specs.Records.{placeTag, nameTag, field, bytesOf, many, elementFields, oneByte}
 use Rattle.rules.proofs.Counts.{terms-pos}
-use Rattle.rules.proofs.FieldLaws.{bytes-append}
-use Rattle.record_walk.specs.Fields.{fits}
-use Rattle.record_walk.specs.Fronts.{headTag, front}
+use Rattle.record_walk.specs.declared.Found.{Found}
+use Rattle.record_walk.specs.declared.Found.the-variants.{Field, Nothing}
+use Rattle.record_walk.specs.Fields.{fits, fieldAt}
+use Rattle.record_walk.specs.Fronts.{headTag}
 use Rattle.record_walk.specs.Runs.{bytesIn}
 use Rattle.record_walk.specs.Spans.{size}
 use Rattle.record_walk.proofs.FrontLaws.{Small, small-drop}
-use Rattle.record_walk.proofs.WalkLaws.{IsField, tag-inside}
-use Rattle.judge_value.specs.Elements.{value}
-use Rattle.judge_value.specs.Judging.{ValueIs}
+use Rattle.record_walk.proofs.RunLaws.{size-append}
+use Rattle.record_walk.proofs.WalkLaws.{Lettered, lettered, nothing-there, tag-inside}
+use Rattle.judge_value.specs.Judging.{ValueIs, IsValue}
+use Rattle.judge_value.specs.declared.Arguments.{Arguments}
+use Rattle.judge_value.specs.declared.Arguments.the-variants.{Are as Number, Bad as NoValue}
 use Rattle.judge_value.proofs.ValueBytes.{value-is}
 use Rattle.judge_place.specs.Places.{isBase, behindName, kindAgrees, agrees, parts, onePlace}
 use Rattle.judge_place.specs.Judging.{PiecesAre, IsPieces, NameIs, IsName, PartsAre, IsParts, PlaceIs, IsPlace}
@@ -37,16 +38,13 @@ use Rattle.judge_place.proofs.PlaceBytes.{behind-is}
 
 -- ---- numbers of pieces and arguments
 
-sum-pos : (e : Element) (es : List Element) → sum (map terms (e ∷ es)) ≡ 0 → ⊥
-sum-pos e es h = omega (arith, terms-pos e)
-
 none-nil : {A : Type 0} (xs : List A) → eqb (length xs) 0 ≡ isNil xs
 none-nil [] = refl
 none-nil (x ∷ xs) = ne-eqb (suc (length xs)) 0 (omega arith)
 
 sum-nil : (v : List Element) → eqb (sum (map terms v)) 0 ≡ isNil v
 sum-nil [] = refl
-sum-nil (e ∷ es) = ne-eqb (sum (map terms (e ∷ es))) 0 (sum-pos e es)
+sum-nil (e ∷ es) = ne-eqb (sum (map terms (e ∷ es))) 0 (λ h. omega (arith, terms-pos e))
 
 agree-is : (named : Bool) (b : Base) (r : List ℕ) (nm : Name) (r′ : List ℕ) (v : List Element) → behindName named r ≡ some (nm, r′)
     → kindAgrees named (length nm) (sum (map terms v)) ≡ agrees named (place b nm v)
@@ -71,6 +69,9 @@ no-bytes (w ∷ ws) =
 ends-at : (rec : List ℕ) (at k : ℕ) (e : List ℕ) → drop at rec ≡ e ++ drop k rec → at ≤ length rec → k ≤ length rec → k ≡ at + length e
 ends-at rec at k e h i j = omega (arith, ap length h, length-append e (drop k rec), length-drop at rec, length-drop k rec)
 
+pub value-there : (b : Base) (rec : List ℕ) (at : ℕ) {r : Arguments} {n k : ℕ} → r ≡ Number n k → IsValue b rec at r → ValueIs b rec at n k
+value-there b rec at e i = subst (IsValue b rec at) e i
+
 module _ (named : Bool) (rec : List ℕ) (at : ℕ) where
   name-of : {n k : ℕ} → PiecesAre nameTag true 4 rec at n k → NameIs true rec at n k
   name-of g = record { nm = g .ws; is = g .is; inside = g .inside; count = g .count }
@@ -82,14 +83,17 @@ module _ (named : Bool) (rec : List ℕ) (at : ℕ) where
   pub name-none : named ≡ false → at ≤ length rec → NameIs named rec at 0 at
   name-none y h = record { nm = []; is = rw y; inside = h; count = refl }
 
-  pub names-gone : (b : Base) → behindName named (drop at rec) ≡ none → parts named b (drop at rec) ≡ none
+  pub names-gone : (b : Base) {r : Pieces} → r ≡ Bad → IsName named rec at r → parts named b (drop at rec) ≡ none
   unfolding parts
-  names-gone b e = rw e
+  names-gone b e i = rw (subst (IsName named rec at) e i)
+
+  pub name-there : {r : Pieces} {n k : ℕ} → r ≡ Are n k → IsName named rec at r → NameIs named rec at n k
+  name-there e i = subst (IsName named rec at) e i
 
   module _ {n j : ℕ} (g : NameIs named rec at n j) where
-    pub value-gone : (b : Base) → value b (drop j rec) ≡ none → parts named b (drop at rec) ≡ none
+    pub value-gone : (b : Base) {r : Arguments} → r ≡ NoValue → IsValue b rec j r → parts named b (drop at rec) ≡ none
     unfolding parts
-    value-gone b e = rw (g .is, e)
+    value-gone b e i = rw (g .is, subst (IsValue b rec j) e i)
 
     module _ (s : Small rec) (i : at ≤ length rec) where
       -- the value begins behind the name's bytes
@@ -153,31 +157,32 @@ base-no c h =
 pub place-inside : (rec : List ℕ) (at : ℕ) → headTag (drop at rec) ≡ placeTag → at ≤ length rec
 place-inside rec at h = omega (arith, tag-inside rec at (omega arith))
 
-pub place-gone : (named : Bool) (r : List ℕ) → front r ≡ none → onePlace named r ≡ none
+pub place-gone : (named : Bool) (rec : List ℕ) (at : ℕ) {r : Found} → r ≡ Nothing → r ≡ fieldAt rec at → onePlace named (drop at rec) ≡ none
 unfolding onePlace
-place-gone named r e = rw e
+place-gone named rec at e q = rw (nothing-there rec at e q)
 
-module _ {rec : List ℕ} {at t s j : ℕ} (f : IsField rec at t s j) (three : headTag (drop at rec) ≡ placeTag) where
-  one-byte : j - s ≡ 1
+module _ (rec : List ℕ) (at : ℕ) {t s j : ℕ} {r : Found} (e : r ≡ Field t s j) (q : r ≡ fieldAt rec at) (three : headTag (drop at rec) ≡ placeTag) where
+  own-letter : Lettered rec at t s j
   unfolding fits
-  one-byte = eqb-true (j - s) 1 (rw (f .tag ∙ three) at (f .fit))
+  own-letter = lettered rec at placeTag (λ n. refl) e q three
+
+  pub behind-inside : j ≤ length rec
+  behind-inside = own-letter .own .inside
 
   pub letter-inside : s < length rec
-  letter-inside = omega (arith, f .inside, one-byte)
+  letter-inside = own-letter .here
 
   letter-there : oneByte (bytesIn rec s j) ≡ baseOf (getD rec s 0)
-  letter-there =
-      let first : getD (bytesIn rec s j) 0 0 ≡ getD rec s 0 = rw (getD-take (j - s) (drop s rec) 0 0 (omega (arith, one-byte)), getD-drop s rec 0 0, add-zero s) in
-      rw (f .long, first, one-byte)
+  letter-there = rw (own-letter .content)
 
   pub place-no : (named : Bool) {y : Bool} → y ≡ isBase (getD rec s 0) → y ≡ false → onePlace named (drop at rec) ≡ none
   unfolding onePlace
-  place-no named e h = rw (f .is, letter-there, base-no (getD rec s 0) (sym e ∙ h))
+  place-no named letter h = rw (own-letter .own .is, letter-there, base-no (getD rec s 0) (sym letter ∙ h))
 
-  module _ (named : Bool) {y : Bool} (e : y ≡ isBase (getD rec s 0)) (h : y ≡ true) where
+  module _ (named : Bool) {y : Bool} (letter : y ≡ isBase (getD rec s 0)) (h : y ≡ true) where
     same-parts : onePlace named (drop at rec) ≡ parts named (baseAt (getD rec s 0)) (drop j rec)
     unfolding onePlace
-    same-parts = rw (f .is, letter-there, base-yes (getD rec s 0) (sym e ∙ h))
+    same-parts = rw (own-letter .own .is, letter-there, base-yes (getD rec s 0) (sym letter ∙ h))
 
     place-is : {n begin k : ℕ} → PartsAre named (getD rec s 0) rec j n begin k → PlaceIs named rec at n begin k
     place-is d =
@@ -187,18 +192,8 @@ module _ {rec : List ℕ} {at t s j : ℕ} (f : IsField rec at t s j) (three : h
           inside = d .inside;
           arguments = d .arguments;
           few = d .few;
-          begins = omega (arith, d .begins, f .start, f .ends, one-byte);
-          ends =
-              omega (
-                arith,
-                d .begins,
-                d .ends,
-                f .start,
-                f .ends,
-                one-byte,
-                ap length (bytes-append (map (λ w. field nameTag w) (d .nm)) (many elementFields (d .v))),
-                length-append (bytesOf (map (λ w. field nameTag w) (d .nm))) (bytesOf (many elementFields (d .v))),
-              );
+          begins = omega (arith, d .begins, own-letter .own .start, own-letter .own .ends, own-letter .one);
+          ends = omega (arith, d .begins, d .ends, own-letter .own .start, own-letter .own .ends, own-letter .one, size-append (map (λ w. field nameTag w) (d .nm)) (many elementFields (d .v)));
         }
 
     pub place-as : (r : OnePlace) → IsParts named (getD rec s 0) rec j r → IsPlace named rec at r

@@ -13,7 +13,6 @@ use Rattle.laws.specs.Ranges.{alike, in-range}
 use Rattle.laws.specs.Lists.{all, allAt, next}
 use Rattle.rules.specs.Refusals.{mostValue, mostFraction, mostWord}
 use Rattle.rules.specs.Characters.{byte, between, isLetter, isAlnum, isWordChar}
-use Rattle.rules.specs.Tokens.{wordChars}
 use Rattle.rules.specs.Units.{Radix, rD, rO, rB, Base, plain, keys, Unit, num, keyed, identifier, symbolic, text, isHeldKey, runOf, isDigitOf, atStop, dotted, fraction, numeral, baseOf, radixAt, baseAt, isIdentifier, isSymbolicName}
 use Rattle.rules.specs.Records.{numeralTag, keyedTag, identifierTag, symbolicTag, stringTag, numOf, num4}
 use Rattle.rules.specs.WellFormed.{isNone, wfUnit, okFraction, isDecimal}
@@ -146,18 +145,7 @@ unfolding allAt
 keyed-all [] n h e = absurd (n refl)
 keyed-all (c ∷ cs) n h e = rw (le-leb (length (c ∷ cs)) mostWord h, and-true (all isHeldKey (c ∷ cs))) e
 
--- ---- names: the rules' chain of tests, over any outcomes of them
-
--- s: it is of the kind, i: it is an identifier, n: it is no numeral, l: it is short, k: it has no `++`
-module _ (s i n l k : Bool) where
-  long : l ≡ false → false ≡ s && not i && n && (l && k)
-  long h = rw (h, and-false (s && not i && n))
-
-  other-kind : i ≡ true → false ≡ s && not i && n && (l && k)
-  other-kind h = rw (h, and-false s)
-
-  is-numeral : n ≡ false → false ≡ s && not i && n && (l && k)
-  is-numeral h = rw (h, and-false (s && not i))
+-- ---- names: the rules' chain of tests
 
 module _ (b : ℕ) (w : List ℕ) where
   pub ident-long : mostWord < length w → false ≡ wfUnit (baseAt b) (identifier w)
@@ -170,16 +158,16 @@ module _ (b : ℕ) (w : List ℕ) where
   ident-no e y = rw (← e, y)
 
   pub symbol-long : mostWord < length w → false ≡ wfUnit (baseAt b) (symbolic w)
-  symbol-long h = long (isSymbolicName w) (isIdentifier w) (isNone (numeral (baseAt b) w)) (leb (length w) mostWord) (wordChars false w) (lt-leb (length w) mostWord h)
+  symbol-long h = rw (lt-leb (length w) mostWord h, and-false (isSymbolicName w && not (isIdentifier w) && isNone (numeral (baseAt b) w)))
 
   pub symbol-ident : {t : Bool} → t ≡ isIdentifier w → t ≡ true → false ≡ wfUnit (baseAt b) (symbolic w)
-  symbol-ident e y = other-kind (isSymbolicName w) (isIdentifier w) (isNone (numeral (baseAt b) w)) (leb (length w) mostWord) (wordChars false w) (sym e ∙ y)
+  symbol-ident e y = rw (← e, y, and-false (isSymbolicName w))
 
   pub symbol-not : {t : Bool} → t ≡ isSymbolicName w → t ≡ false → false ≡ wfUnit (baseAt b) (symbolic w)
   symbol-not e y = rw (sym e ∙ y)
 
   pub symbol-num : {t : Bool} → t ≡ isNone (numeral (baseAt b) w) → t ≡ false → false ≡ wfUnit (baseAt b) (symbolic w)
-  symbol-num e y = is-numeral (isSymbolicName w) (isIdentifier w) (isNone (numeral (baseAt b) w)) (leb (length w) mostWord) (wordChars false w) (sym e ∙ y)
+  symbol-num e y = rw (← e, y, and-false (isSymbolicName w && not (isIdentifier w)))
 
   pub symbol-yes : {i s n r : Bool} → length w ≤ mostWord → i ≡ isIdentifier w → i ≡ false → s ≡ isSymbolicName w → s ≡ true
       → n ≡ isNone (numeral (baseAt b) w) → n ≡ true → r ≡ okAt false w 0 → r ≡ wfUnit (baseAt b) (symbolic w)

@@ -1,8 +1,8 @@
 -- A unit that was read from the front of bytes is written to the same bytes again, and a well-formed unit is read back from its field.
 use mathlib.Core.Path.{_≡_, refl, sym, ap, _∙_, subst}
-use mathlib.Core.Bool.{Bool, true, false, _&&_, not, false≢true}
+use mathlib.Core.Bool.{Bool, true, false, false≢true}
 use mathlib.Core.List.{List, [], _∷_, _++_, append-nil}
-use mathlib.Core.Option.{none, some}
+use mathlib.Core.Option.{some}
 use Prim.Native.Nat.{ℕ, zero, suc, _+_, _*_, _/_, _%_, _^_, _<_}
 use native.Mathlib.Omega.{arith}
 use borrow.Author.Tests.{eqb-true, le-leb}
@@ -10,13 +10,10 @@ use lib.Dec.{leb, eqb}
 use lib.ListN.{length, getD, drop, drop-of-length-le}
 use lib.Seq.{drop-cons}
 use Rattle.laws.specs.Cases.{byBool, byOption, some-inj, none≢some, and-l, and-r}
-use Rattle.laws.specs.Lists.{all, isNil}
-use Rattle.rules.specs.Refusals.{mostWord, mostString}
-use Rattle.rules.specs.Characters.{isPermitted}
-use Rattle.rules.specs.Tokens.{wordChars}
-use Rattle.rules.specs.Units.{Base, plain, keys, letter, baseOf, Unit, num, keyed, identifier, symbolic, text, isHeldKey, runOf, numeral, isIdentifier, isSymbolicName}
+use Rattle.rules.specs.Refusals.{mostWord}
+use Rattle.rules.specs.Units.{Base, plain, keys, letter, baseOf, Unit, num, keyed, identifier, symbolic, text, isHeldKey, runOf, isIdentifier, isSymbolicName}
 use Rattle.rules.specs.Records.{Field, field, isUnit, fourBytes, unitField, fieldBytes, bytesOf, num4, numOf, unitOf}
-use Rattle.rules.specs.WellFormed.{isNone, wfUnit}
+use Rattle.rules.specs.WellFormed.{wfUnit}
 use Rattle.rules.proofs.UnitBack.{base-back}
 use Rattle.rules.proofs.DecodeEncode.{four, value-small}
 use Rattle.record_walk.specs.Fields.{fits, wordLength}
@@ -86,54 +83,40 @@ field-unit b (text w) h = refl
 abbrev pub unitFields : Unit → List Field
 unitFields u = unitField u ∷ []
 
-pub unit-is : (b : Base) (r : List ℕ) (u : Unit) (r′ : List ℕ) → Small r → isUnit (headTag r) ≡ true → unit b r ≡ some (u, r′) → (wfUnit b u ≡ true) × (r ≡ bytesOf (unitFields u) ++ r′)
+-- a unit that was read is its field's
+unit-some : {C : Type 0} (b : Base) (r : List ℕ) (u : Unit) (r′ : List ℕ) → unit b r ≡ some (u, r′)
+    → ((t : ℕ) (w r₁ : List ℕ) → front r ≡ some (field t w, r₁) → wfUnit b u ≡ true → unitOf t w ≡ some u → r₁ ≡ r′ → C) → C
 unfolding unit
-unit-is b r u r′ s _ e =
+unit-some {C} b r u r′ e k =
     only-some (wfUnit b) (andThen (front r) (λ f r₁. made (unitIn f) r₁)) u r′ e
-    (λ h g. then-some (front r) (λ f r₁. made (unitIn f) r₁) (u, r′) g (λ f r₁ c m. (h, front-unit f r₁ c m)))
+    (λ h g. then-some (front r) (λ f r₁. made (unitIn f) r₁) (u, r′) g (λ f r₁ c m. go h f r₁ c m))
   where
-    front-unit : (f : Field) (r₁ : List ℕ) → front r ≡ some (f, r₁) → made (unitIn f) r₁ ≡ some (u, r′) → r ≡ bytesOf (unitFields u) ++ r′
-    front-unit (field t w) r₁ c m =
-        made-some (unitOf t w) r₁ u r′ m
-        (λ o q. front-is r t w r₁ c
-        (λ _ c′.
-        let k : r ≡ fieldBytes (field t w) ++ r₁ = cut-is r (field t w) r₁ s c′ in
-        let sw : Small w = small-front w r₁ (small-behind (t ∷ length w / 256 ∷ length w % 256 ∷ []) (w ++ r₁) (subst Small k s)) in
-        k ∙ rw (unit-field t w u sw o, append-nil w, q)))
+    go : wfUnit b u ≡ true → (f : Field) (r₁ : List ℕ) → front r ≡ some (f, r₁) → made (unitIn f) r₁ ≡ some (u, r′) → C
+    go h (field t w) r₁ c m = made-some (unitOf t w) r₁ u r′ m (λ o q. k t w r₁ c h o q)
+
+pub unit-is : (b : Base) (r : List ℕ) (u : Unit) (r′ : List ℕ) → Small r → isUnit (headTag r) ≡ true → unit b r ≡ some (u, r′) → (wfUnit b u ≡ true) × (r ≡ bytesOf (unitFields u) ++ r′)
+unit-is b r u r′ s _ e =
+    unit-some b r u r′ e
+    (λ t w r₁ c h o q. front-is r t w r₁ c
+    (λ _ c′.
+    let k : r ≡ fieldBytes (field t w) ++ r₁ = cut-is r (field t w) r₁ s c′ in
+    let sw : Small w = small-front w r₁ (small-behind (t ∷ length w / 256 ∷ length w % 256 ∷ []) (w ++ r₁) (subst Small k s)) in
+    (h, k ∙ rw (unit-field t w u sw o, append-nil w, q))))
 
 -- a well-formed unit's field is as long as its tag allows
-some-word : (w : List ℕ) → isNil w ≡ false → leb (length w) mostWord ≡ true → wordLength (length w) ≡ true
-some-word [] n h = absurd (false≢true (sym n))
-some-word (c ∷ cs) n h = rw (le-leb 1 (length (c ∷ cs)) (omega arith)) h
+some-word : (f : List ℕ → Bool) → f [] ≡ false → (w : List ℕ) → f w ≡ true → leb (length w) mostWord ≡ true → wordLength (length w) ≡ true
+some-word f n [] k h = absurd (false≢true (sym n ∙ k))
+some-word f n (c ∷ cs) k h = rw (le-leb 1 (length (c ∷ cs)) (omega arith)) h
 
-not-nil : (f : Bool) (w : List ℕ) → not (isNil w) && f ≡ true → isNil w ≡ false
-not-nil f [] h = absurd (false≢true h)
-not-nil f (c ∷ cs) h = refl
-
-ident-some : (w : List ℕ) → isIdentifier w ≡ true → isNil w ≡ false
-ident-some [] h = absurd (false≢true h)
-ident-some (c ∷ cs) h = refl
-
-symbol-some : (w : List ℕ) → isSymbolicName w ≡ true → isNil w ≡ false
-symbol-some [] h = absurd (false≢true h)
-symbol-some (c ∷ cs) h = refl
+ruleset parts = (and-l, and-r)
 
 unit-fits : (b : Base) (u : Unit) → wfUnit b u ≡ true → fitting (unitField u) ≡ true
 unfolding fits
 unit-fits b (num r f v) h = refl
-unit-fits b (keyed w) h =
-    some-word w (not-nil (all isHeldKey w) w (and-l (runOf isHeldKey w) (leb (length w) mostWord) h)) (and-r (runOf isHeldKey w) (leb (length w) mostWord) h)
-unit-fits b (identifier w) h =
-    let k : isIdentifier w && isNone (numeral b w) ≡ true = and-l (isIdentifier w && isNone (numeral b w)) (leb (length w) mostWord) h in
-    some-word w (ident-some w (and-l (isIdentifier w) (isNone (numeral b w)) k)) (and-r (isIdentifier w && isNone (numeral b w)) (leb (length w) mostWord) h)
-unit-fits b (symbolic w) h =
-    let s : Bool = isSymbolicName w in
-    let i : Bool = not (isIdentifier w) in
-    let n : Bool = isNone (numeral b w) in
-    let l : leb (length w) mostWord && wordChars false w ≡ true = and-r (s && i && n) (leb (length w) mostWord && wordChars false w) h in
-    let k : s ≡ true = and-l s i (and-l (s && i) n (and-l (s && i && n) (leb (length w) mostWord && wordChars false w) h)) in
-    some-word w (symbol-some w k) (and-l (leb (length w) mostWord) (wordChars false w) l)
-unit-fits b (text w) h = and-l (leb (length w) mostString) (all isPermitted w) h
+unit-fits b (keyed w) h = some-word (runOf isHeldKey) refl w (search parts) (search parts)
+unit-fits b (identifier w) h = some-word isIdentifier refl w (search parts) (search parts)
+unit-fits b (symbolic w) h = some-word isSymbolicName refl w (search parts) (search parts)
+unit-fits b (text w) h = search parts
 
 pub unit-back : (b : Base) (u : Unit) (rest : List ℕ) → wfUnit b u ≡ true → true ≡ true → unit b (bytesOf (unitFields u) ++ rest) ≡ some (u, rest)
 unfolding unit
@@ -160,11 +143,4 @@ has-tag t w u e =
     (λ y4. byBool (eqb t 11) (λ y. rw (eqb-true t 11 y)) (λ y. none≢some (rw (y1, y2, y3, y4, y) at e))))))
 
 pub unit-tag : (b : Base) (r : List ℕ) (u : Unit) (r′ : List ℕ) → unit b r ≡ some (u, r′) → isUnit (headTag r) ≡ true
-unfolding unit
-unit-tag b r u r′ e =
-    only-some (wfUnit b) (andThen (front r) (λ f r₁. made (unitIn f) r₁)) u r′ e
-    (λ h g. then-some (front r) (λ f r₁. made (unitIn f) r₁) (u, r′) g (λ f r₁ c m. go f r₁ c m))
-  where
-    go : (f : Field) (r₁ : List ℕ) → front r ≡ some (f, r₁) → made (unitIn f) r₁ ≡ some (u, r′) → isUnit (headTag r) ≡ true
-    go (field t w) r₁ c m =
-        made-some (unitOf t w) r₁ u r′ m (λ o q. subst (λ (n : ℕ). isUnit n ≡ true) (front-tag r t w r₁ c) (has-tag t w u o))
+unit-tag b r u r′ e = unit-some b r u r′ e (λ t w r₁ c _ o _. subst (λ (n : ℕ). isUnit n ≡ true) (front-tag r t w r₁ c) (has-tag t w u o))

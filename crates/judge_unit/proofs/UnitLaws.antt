@@ -16,21 +16,21 @@ use Rattle.rules.specs.Units.{rD, Base, Unit, baseAt}
 use Rattle.rules.specs.Records.{numeralTag, num4, unitOf}
 use Rattle.rules.specs.WellFormed.{okFraction}
 use Rattle.digits.specs.Digits.{plainLetter}
-use Rattle.record_walk.specs.declared.Found.the-variants.{Field}
-use Rattle.record_walk.specs.Fields.{fits, lengthAt}
-use Rattle.record_walk.specs.Fronts.{front}
+use Rattle.record_walk.specs.declared.Found.{Found}
+use Rattle.record_walk.specs.declared.Found.the-variants.{Field, Nothing}
+use Rattle.record_walk.specs.Fields.{fits, lengthAt, fieldAt}
 use Rattle.record_walk.specs.Runs.{bytesIn}
 use Rattle.record_walk.proofs.FrontLaws.{Small, small-front, small-drop}
 use Rattle.record_walk.proofs.RunLaws.{byte-in, long-in}
-use Rattle.record_walk.proofs.WalkLaws.{IsField, finds, field-fits}
+use Rattle.record_walk.proofs.WalkLaws.{IsField, finds, nothing-there, field-fits}
 use Rattle.judge_unit.specs.Units.{unit, mayStand, unitStands, numeralStands, decimalAt, UnitTo, IsUnit}
 use Rattle.judge_unit.proofs.StandLaws.{numeral-is}
 
 -- ---- a field that was found
 
-pub unit-gone : (b : Base) (r : List ℕ) → front r ≡ none → unit b r ≡ none
+pub unit-gone : (b : Base) (rec : List ℕ) (at : ℕ) {r : Found} → r ≡ Nothing → r ≡ fieldAt rec at → unit b (drop at rec) ≡ none
 unfolding unit
-unit-gone b r e = rw e
+unit-gone b rec at e q = rw (nothing-there rec at e q)
 
 pub ends-there : {b : Base} {rec : List ℕ} {at : ℕ} (k : ℕ) → UnitTo b rec at k → IsUnit b rec at k
 ends-there zero u = absurd (omega (arith, u .on))
@@ -71,7 +71,7 @@ numeral-long {rec} {at} {t} {s} {k} f e = let n : k - s ≡ 6 = eqb-true (k - s)
 
 -- ---- numerals
 
-small-number : (w : List ℕ) (i : ℕ) → Small w → num4 w i ≤ mostValue
+pub small-number : (w : List ℕ) (i : ℕ) → Small w → num4 w i ≤ mostValue
 small-number w i s = omega (arith, s i, s (1 + i), s (2 + i), s (3 + i))
 
 small-in : (rec : List ℕ) (a e : ℕ) → Small rec → Small (bytesIn rec a e)
@@ -87,6 +87,8 @@ numeral-there b rec s k sm e h =
 
 -- ---- a decimal numeral
 
+ruleset parts = (and-l, and-r, leb-true, eqb-true)
+
 decimal-stands : (b f : ℕ) → okFraction rD f ≡ true → (b ≡ byte "K" → ⊥) → numeralStands b 68 f ≡ true
 unfolding numeralStands plainLetter
 decimal-stands b f h nk = rw (ne-eqb b (byte "K") nk) h
@@ -96,10 +98,9 @@ module _ (b : ℕ) (rec : List ℕ) (at : ℕ) (sm : Small rec) (inside : at ≤
   unfolding decimalAt fits
   decimal-found e h nk =
       let all : leb (at + 9) (length rec) && (eqb (num4 rec at) 117442116 && okFraction rD (getD rec (at + 4) 0)) ≡ true = sym e ∙ h in
-      let rest : eqb (num4 rec at) 117442116 && okFraction rD (getD rec (at + 4) 0) ≡ true = and-r (leb (at + 9) (length rec)) (eqb (num4 rec at) 117442116 && okFraction rD (getD rec (at + 4) 0)) all in
-      let room : at + 9 ≤ length rec = leb-true _ _ (and-l (leb (at + 9) (length rec)) (eqb (num4 rec at) 117442116 && okFraction rD (getD rec (at + 4) 0)) all) in
-      let head : num4 rec at ≡ 117442116 = eqb-true _ _ (and-l (eqb (num4 rec at) 117442116) (okFraction rD (getD rec (at + 4) 0)) rest) in
-      let few : okFraction rD (getD rec (at + 4) 0) ≡ true = and-r (eqb (num4 rec at) 117442116) (okFraction rD (getD rec (at + 4) 0)) rest in
+      let room : at + 9 ≤ length rec = search parts in
+      let head : num4 rec at ≡ 117442116 = search parts in
+      let few : okFraction rD (getD rec (at + 4) 0) ≡ true = search parts in
       let one : 1 + at ≡ at + 1 = omega arith in
       let two : 2 + at ≡ at + 2 = omega arith in
       let three : 3 + at ≡ at + 3 = omega arith in

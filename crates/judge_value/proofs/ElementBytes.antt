@@ -1,9 +1,9 @@
--- An element that was read from the front of bytes is written to the same bytes again, and a well-formed element is read back from its fields.
+-- Units and elements that were read from the front of bytes are written to the same bytes again, and well-formed ones are read back from their fields.
 use mathlib.Core.Path.{_≡_, refl, sym, ap, ap₂, _∙_, subst}
-use mathlib.Core.Bool.{Bool, true, false, cond, _&&_, false≢true}
+use mathlib.Core.Bool.{Bool, true, false, cond, _&&_, false≢true, not}
 use mathlib.Core.List.{List, [], _∷_, _++_, map}
 use mathlib.Core.Option.{none, some}
-use Prim.Native.Nat.{ℕ, _+_, _/_, _%_, _≤_}
+use Prim.Native.Nat.{ℕ, _/_, _%_, _≤_}
 use native.Mathlib.Omega.{arith}
 use borrow.Author.Tests.{eqb-true, eq-eqb, le-leb}
 use lib.Dec.{leb, eqb}
@@ -18,10 +18,40 @@ use Rattle.rules.proofs.DecodeEncode.{four, value-small, last-split}
 use Rattle.rules.proofs.ValueBack.{ok-lead, ok-last, ok-range}
 use Rattle.record_walk.specs.Fields.{fits}
 use Rattle.record_walk.specs.Fronts.{andThen, made, headTag, front}
-use Rattle.record_walk.proofs.FrontLaws.{then-some, only-some, made-some, Small, small-behind, small-front, cut-is, front-is, front-field}
-use Rattle.judge_value.specs.Elements.{units, elementIn, inOrder, element}
-use Rattle.judge_unit.proofs.UnitBytes.{listed-is, four-bytes}
-use Rattle.judge_value.proofs.UnitBytes.{UnitsWrote, units-is, units-back}
+use Rattle.record_walk.proofs.FrontLaws.{then-some, only-some, made-some, Small, small-behind, small-front, cut-is, front-is, front-field, goods, several-is, several-all}
+use Rattle.judge_value.specs.Elements.{units, elementIn, inOrder, element, sameBase, fewUnits}
+use Rattle.judge_unit.proofs.UnitLaws.{small-number}
+use Rattle.judge_unit.proofs.UnitBytes.{listed-is, four-bytes, unitFields, unit-is, unit-back, unit-opens}
+use Rattle.judge_value.proofs.UnitsLaws.{snoc-some}
+use Rattle.rules.proofs.FieldLaws.{many-map}
+use Rattle.judge_unit.specs.Units.{unit}
+
+-- ---- units
+
+goods-all : (b : Base) (us : List Unit) → goods isUnit unit sameBase wfUnit unitFields b us ≡ all (wfUnit b) us
+goods-all b [] = refl
+goods-all b (u ∷ us) = ap (λ t. wfUnit b u && t) (goods-all b us)
+
+pub record UnitsWrote (b : Base) (r : List ℕ) (us : List Unit) (r′ : List ℕ) : Type 0 where
+  pub well : all (wfUnit b) us ≡ true
+  pub few : length us ≤ 4
+  pub bytes : r ≡ bytesOf (map unitField us) ++ r′
+
+pub units-is : (b : Base) (r : List ℕ) (us : List Unit) (r′ : List ℕ) → Small r → units b r ≡ some (us, r′) → UnitsWrote b r us r′
+units-is b r us r′ s e =
+    only-some (λ (x : List Unit). not (isNil x)) (fewUnits b r) us r′ e
+    (λ _ k.
+    let w = several-is isUnit unit sameBase wfUnit unitFields unit-is 4 b r us r′ s k in
+    record { well = sym (goods-all b us) ∙ w .well; few = w .few; bytes = w .bytes ∙ rw (many-map unitField us) })
+
+pub units-back : (b : Base) (us : List Unit) (rest : List ℕ) → all (wfUnit b) us ≡ true → length us ≤ 4 → isNil us ≡ false → isUnit (headTag rest) ≡ false
+    → units b (bytesOf (map unitField us) ++ rest) ≡ some (us, rest)
+units-back b us rest h n l t =
+    let back : fewUnits b (bytesOf (map unitField us) ++ rest) ≡ some (us, rest) = rw (← many-map unitField us)
+    (several-all isUnit unit sameBase wfUnit unitFields (λ _. true) unit-back unit-opens (λ _ _. refl) us 4 b rest (goods-all b us ∙ h) n t refl) in
+    rw (back, l)
+
+ruleset parts = (and-l, and-r)
 
 -- ---- leading units and the last
 
@@ -72,9 +102,6 @@ module _ (b : Base) (w r₁ : List ℕ) (us : List Unit) (r′ : List ℕ) (g : 
         bytes = rw (n, g .bytes, q);
       }
 
-  small-number : Small w → (i : ℕ) → num4 w i ≤ 4294967295
-  small-number s i = omega (arith, s i, s (1 + i), s (2 + i), s (3 + i))
-
   ends-bytes : Small w → length w ≡ 8 → fourBytes (num4 w 0) ++ fourBytes (num4 w 4) ≡ w
   ends-bytes s h =
       ap₂ (λ (x y : List ℕ). x ++ y) (four-bytes (getD w 0 0) (getD w 1 0) (getD w 2 0) (getD w 3 0) (s 1) (s 2) (s 3))
@@ -87,16 +114,16 @@ module _ (b : Base) (w r₁ : List ℕ) (us : List Unit) (r′ : List ℕ) (g : 
       let u : Unit = num ρ 0 lo in
       let a : all (wfUnit b) (l ++ (u ∷ [])) ≡ true = rw q at (g .well) in
       let wl : wfUnit b u ≡ true = all-last (wfUnit b) l u a in
-      let al : allowed b (plain ρ) ≡ true = and-l (allowed b (plain ρ)) true (and-l (allowed b (plain ρ) && true) (leb lo 4294967295) wl) in
-      let v : leb lo 4294967295 ≡ true = and-r (allowed b (plain ρ) && true) (leb lo 4294967295) wl in
+      let al : allowed b (plain ρ) ≡ true = search parts in
+      let v : leb lo 4294967295 ≡ true = search parts in
       record {
         well = rw (
           eq-eqb (length l) (length l) refl,
           all-front (wfUnit b) l u a,
           al,
           v,
-          le-leb (num4 w 0) 4294967295 (small-number s 0),
-          le-leb (num4 w 4) 4294967295 (small-number s 4),
+          le-leb (num4 w 0) 4294967295 (small-number w 0 s),
+          le-leb (num4 w 4) 4294967295 (small-number w 4 s),
           and-l (leb lo (num4 w 0)) (leb 1 (num4 w 4)) o,
           and-r (leb lo (num4 w 0)) (leb 1 (num4 w 4)) o,
         );
@@ -150,10 +177,6 @@ element-is b r e r′ s h q =
 
 -- ---- what is well formed is read back
 
-snoc-some : (l : List Unit) (u : Unit) → isNil (l ++ (u ∷ [])) ≡ false
-snoc-some [] u = refl
-snoc-some (i ∷ l) u = refl
-
 units-whole : (b : Base) (l : List Unit) (u : Unit) (rest : List ℕ) → all (wfUnit b) l ≡ true → wfUnit b u ≡ true → length l ≤ 3 → isUnit (headTag rest) ≡ false
     → units b (bytesOf (map unitField (l ++ (u ∷ []))) ++ rest) ≡ some (l ++ (u ∷ []), rest)
 units-whole b l u rest hl hu n t =
@@ -170,17 +193,15 @@ element-back b (range l ρ lo up inc) rest h n t =
     let e : Element = range l ρ lo up inc in
     let r₁ : List ℕ = bytesOf (map unitField (l ++ (num ρ 0 lo ∷ []))) ++ rest in
     let w : List ℕ = fourBytes up ++ fourBytes inc in
-    let wu : Bool = wfUnit b (num ρ 0 up) in
-    let wi : Bool = wfUnit b (num ρ 0 inc) in
-    let h1 : wu && wi && leb lo up && leb 1 inc ≡ true = ok-range b (length l) e h in
-    let h2 : wu && wi && leb lo up ≡ true = and-l (wu && wi && leb lo up) (leb 1 inc) h1 in
-    let h3 : wu && wi ≡ true = and-l (wu && wi) (leb lo up) h2 in
+    let k : wfUnit b (num ρ 0 up) && wfUnit b (num ρ 0 inc) && leb lo up && leb 1 inc ≡ true = ok-range b (length l) e h in
+    let in-order : leb lo up ≡ true = search parts in
+    let some-step : leb 1 inc ≡ true = search parts in
     rw (
       front-field 6 w r₁ refl,
       units-whole b l (num ρ 0 lo) rest (ok-lead b (length l) e h) (ok-last b (length l) e h) n t,
       last-split l (num ρ 0 lo),
-      four up (value-small b ρ 0 up (and-l wu wi h3)),
-      four inc (value-small b ρ 0 inc (and-r wu wi h3)),
-      and-r (wu && wi) (leb lo up) h2,
-      and-r (wu && wi && leb lo up) (leb 1 inc) h1,
+      four up (value-small b ρ 0 up (search parts)),
+      four inc (value-small b ρ 0 inc (search parts)),
+      in-order,
+      some-step,
     )

@@ -16,52 +16,48 @@ use Rattle.rules.specs.Commands.{single, range}
 use Rattle.rules.specs.Records.{singleTag, rangeTag, numeralTag, isElement, bytesOf, ends, num4, rangeOf, elementOf}
 use Rattle.rules.specs.WellFormed.{wfUnit}
 use Rattle.rules.proofs.DecodeEncode.{four, value-small, last-split}
-use Rattle.record_walk.specs.Fields.{fits}
-use Rattle.record_walk.specs.Fronts.{only, made, headTag, front}
+use Rattle.record_walk.specs.declared.Found.{Found}
+use Rattle.record_walk.specs.declared.Found.the-variants.{Nothing}
+use Rattle.record_walk.specs.Fields.{fits, fieldAt}
+use Rattle.record_walk.specs.Fronts.{only, made, headTag}
 use Rattle.record_walk.specs.Runs.{bytesIn}
 use Rattle.record_walk.proofs.FrontLaws.{Small, small-drop}
 use Rattle.record_walk.proofs.RunLaws.{number-in}
-use Rattle.record_walk.proofs.WalkLaws.{IsField, tag-there, tag-inside}
+use Rattle.record_walk.proofs.WalkLaws.{IsField, nothing-there, tag-there, tag-inside}
 use Rattle.judge_unit.specs.Units.{unit}
 use Rattle.judge_unit.proofs.UnitBytes.{unitFields, unit-is, unit-tag}
 use Rattle.judge_value.specs.declared.Lower.{Lower}
 use Rattle.judge_value.specs.declared.Lower.the-variants.{Is as Whole, Bad as NotWhole}
 use Rattle.judge_value.specs.declared.Terms.{Terms}
 use Rattle.judge_value.specs.declared.Terms.the-variants.{More, Bad}
-use Rattle.judge_value.specs.Elements.{units, inOrder, element, wholeIn, lowerAt, moreOf, termsOf}
-use Rattle.judge_value.specs.Judging.{UnitsAre, ElementIs}
+use Rattle.judge_value.specs.Elements.{inOrder, element, wholeIn, lowerAt, moreOf, termsOf}
+use Rattle.judge_value.specs.Judging.{UnitsAre, IsUnits, ElementIs}
+use Rattle.judge_value.specs.declared.Units.{Units}
+use Rattle.judge_value.specs.declared.Units.the-variants.{Are, Bad as NoUnits}
 
 -- ---- the lower end, from the last unit's bytes
 
 whole-inj : {a b : ℕ} → _≡_ {A = Lower} (Whole a) (Whole b) → a ≡ b
-whole-inj e = ap value e
-  where
-    value : Lower → ℕ
-    value (Whole n) = n
-    value NotWhole = 0
+whole-inj e = cc
+
+not-whole : {C : Type 0} {v : ℕ} → _≡_ {A = Lower} NotWhole (Whole v) → C
+not-whole e = let z : _≡_ {A = ℕ} 0 1 = cc in absurd (omega arith)
 
 -- a range of these units and ends
 record RangeFrom (l : List Unit) (u : Unit) (lo up inc : ℕ) : Type 0 where
   r : Radix
   is : rangeOf up inc (ends l u) ≡ some (range l r lo up inc)
 
-apart : {C : Type 0} {v : ℕ} → _≡_ {A = Lower} NotWhole (Whole v) → C
-apart {C} e = absurd (subst is-bad e tt)
-  where
-    is-bad : Lower → Type 0
-    is-bad (Whole n) = ⊥
-    is-bad NotWhole = Always
-
 range-from : (l : List Unit) (u : Unit) (lo up inc : ℕ) → wholeIn u ≡ Whole lo → RangeFrom l u lo up inc
 range-from l (num r f v) lo up inc h =
-    byBool (eqb f 0) (λ y. record { r = r; is = rw (y, whole-inj (rw y at h)) }) (λ y. apart (rw y at h))
-range-from l (keyed w) lo up inc h = apart h
-range-from l (identifier w) lo up inc h = apart h
-range-from l (symbolic w) lo up inc h = apart h
-range-from l (text w) lo up inc h = apart h
+    byBool (eqb f 0) (λ y. record { r = r; is = rw (y, whole-inj (rw y at h)) }) (λ y. not-whole (rw y at h))
+range-from l (keyed w) lo up inc h = not-whole h
+range-from l (identifier w) lo up inc h = not-whole h
+range-from l (symbolic w) lo up inc h = not-whole h
+range-from l (text w) lo up inc h = not-whole h
 
 no-range : (l : List Unit) (u : Unit) (up inc : ℕ) → wholeIn u ≡ NotWhole → rangeOf up inc (ends l u) ≡ none
-no-range l (num r f v) up inc h = byBool (eqb f 0) (λ y. apart (sym (rw y at h))) (λ y. rw y)
+no-range l (num r f v) up inc h = byBool (eqb f 0) (λ y. not-whole (sym (rw y at h))) (λ y. rw y)
 no-range l (keyed w) up inc h = refl
 no-range l (identifier w) up inc h = refl
 no-range l (symbolic w) up inc h = refl
@@ -95,11 +91,11 @@ module _ (b : Base) (rec : List ℕ) (l : ℕ) (u : Unit) (k : ℕ) (s : Small r
   wrote : (wfUnit b u ≡ true) × (drop l rec ≡ bytesOf (unitFields u) ++ drop k rec)
   wrote = unit-is b (drop l rec) u (drop k rec) (small-drop l rec s) (unit-tag b (drop l rec) u (drop k rec) e) e
 
-  pub lower-is : lowerAt rec l ≡ wholeIn u
+  lower-is : lowerAt rec l ≡ wholeIn u
   lower-is = lower-drop rec l ∙ ap (λ (r : List ℕ). lowerAt r 0) (wrote .1) ∙ lower-field b (drop k rec) u (wrote .0)
 
-  pub lower-room : getD rec l 0 ≡ numeralTag → l + 9 ≤ length rec
-  lower-room h =
+  field-there-room : getD rec l 0 ≡ numeralTag → l + 9 ≤ length rec
+  field-there-room h =
       let tag : getD (bytesOf (unitFields u) ++ drop k rec) 0 0 ≡ numeralTag = ap (λ (r : List ℕ). getD r 0 0) (sym (wrote .1)) ∙ tag-there rec l ∙ h in
       let room : 9 ≤ length (drop l rec) = rw (wrote .1) (field-room b (drop k rec) u tag) in
       omega (arith, length-drop l rec)
@@ -125,20 +121,31 @@ terms-is rec s o m e = subst (IsTerms rec s o) (sym e) (terms-there rec s o)
 -- ---- the element
 
 -- where an element's tag stands, the record goes on
-pub element-inside : (rec : List ℕ) (at : ℕ) → isElement (headTag (drop at rec)) ≡ true → at < length rec
+pub element-inside : (rec : List ℕ) (at : ℕ) → isElement (headTag (drop at rec)) ≡ true → at ≤ length rec
 element-inside rec at h =
     let t : ℕ = headTag (drop at rec) in
-    tag-inside rec at
-    (or-cases (eqb t singleTag) (eqb t rangeTag) h (λ y. omega (arith, eqb-true t singleTag y)) (λ y. omega (arith, eqb-true t rangeTag y)))
+    let some : 1 ≤ t = or-cases (eqb t singleTag) (eqb t rangeTag) h (λ y. omega (arith, eqb-true t singleTag y)) (λ y. omega (arith, eqb-true t rangeTag y)) in
+    omega (arith, tag-inside rec at some)
 
-pub element-gone : (b : Base) (r : List ℕ) → front r ≡ none → element b r ≡ none
+pub element-gone : (b : Base) (rec : List ℕ) (at : ℕ) {r : Found} → r ≡ Nothing → r ≡ fieldAt rec at → element b (drop at rec) ≡ none
 unfolding element
-element-gone b r e = rw e
+element-gone b rec at e q = rw (nothing-there rec at e q)
+
+pub units-there : (b : Base) (rec : List ℕ) (at : ℕ) {n l k : ℕ} {r : Units} → r ≡ Are n l k → IsUnits b rec at r → UnitsAre b rec at n l k
+units-there b rec at e i = subst (IsUnits b rec at) e i
+
+-- the last unit, which may be a lower end
+module _ {b : Base} {rec : List ℕ} {at n l k : ℕ} (g : UnitsAre b rec at n l k) where
+  pub last-inside : l < length rec
+  last-inside = omega (arith, g .on, g .inside)
+
+  pub lower-room : Small rec → getD rec l 0 ≡ numeralTag → l + 9 ≤ length rec
+  lower-room s h = field-there-room b rec l (g .u) k s (g .last) h
 
 module _ {rec : List ℕ} {at t s k : ℕ} (f : IsField rec at t s k) where
-  pub units-gone : (b : Base) → units b (drop k rec) ≡ none → element b (drop at rec) ≡ none
+  pub units-gone : (b : Base) {r : Units} → r ≡ NoUnits → IsUnits b rec k r → element b (drop at rec) ≡ none
   unfolding element
-  units-gone b e = rw (f .is, e)
+  units-gone b e i = rw (f .is, subst (IsUnits b rec k) e i)
 
   single-content : t ≡ singleTag → bytesIn rec s k ≡ []
   unfolding fits
@@ -148,30 +155,37 @@ module _ {rec : List ℕ} {at t s k : ℕ} (f : IsField rec at t s k) where
   unfolding fits
   single-long e = let z : k - s ≡ 0 = eqb-true (k - s) 0 (rw e at (f .fit)) in omega (arith, f .ends)
 
-  pub range-long : t ≡ rangeTag → k ≡ s + 8
+  range-long : t ≡ rangeTag → k ≡ s + 8
   unfolding fits
   range-long e = let n : k - s ≡ 8 = eqb-true (k - s) 8 (rw e at (f .fit)) in omega (arith, f .ends)
 
   -- an element's content tells which of the two it is
   module _ (h : isElement (headTag (drop at rec)) ≡ true) where
-    pub range-tag : (s ≡ k → ⊥) → t ≡ rangeTag
+    range-tag : (s ≡ k → ⊥) → t ≡ rangeTag
     range-tag n = eqb-true t rangeTag (rw (← f .tag, ne-eqb t singleTag (λ e. n (single-long e))) at h)
 
-    pub single-tag : s ≡ k → t ≡ singleTag
+    single-tag : s ≡ k → t ≡ singleTag
     single-tag e =
         byBool (eqb t singleTag) (λ y. eqb-true t singleTag y)
         (λ y. let q : t ≡ rangeTag = eqb-true t rangeTag (rw (← f .tag, y) at h) in absurd (omega (arith, range-long q)))
 
-  module _ {b : Base} {n l j : ℕ} (g : UnitsAre b rec k n l j) where
+  pub range-room : isElement (headTag (drop at rec)) ≡ true → (s ≡ k → ⊥) → s + 8 ≤ length rec
+  range-room h n = omega (arith, range-long (range-tag h n), f .inside)
+
+  module _ {b : Base} {n l j : ℕ} (g : UnitsAre b rec k n l j) (h : isElement (headTag (drop at rec)) ≡ true) where
     made-of : element b (drop at rec) ≡ only inOrder (made (elementOf t (bytesIn rec s k) (ends (g .lead) (g .u))) (drop j rec))
     unfolding element
     made-of = rw (f .is, g .is, last-split (g .lead) (g .u))
 
-    pub single-is : t ≡ singleTag → ElementIs b rec at n 0 j
-    single-is five =
+    pub single-is : s ≡ k → ElementIs b rec at n 0 j
+    single-is same =
+        let five : t ≡ singleTag = single-tag h same in
         record { e = single (g .lead) (g .u); is = made-of ∙ rw (five, single-content five); inside = g .inside; units = g .count; counts = refl }
 
-    module _ (six : t ≡ rangeTag) where
+    module _ (apart : s ≡ k → ⊥) where
+      six : t ≡ rangeTag
+      six = range-tag h apart
+
       up : num4 (bytesIn rec s k) 0 ≡ num4 rec s
       up = number-in rec s k 0 (omega (arith, range-long six)) ∙ ap (num4 rec) (add-zero s)
 
@@ -181,27 +195,31 @@ module _ {rec : List ℕ} {at t s k : ℕ} (f : IsField rec at t s k) where
       long : length (bytesIn rec s k) ≡ 8
       long = f .long ∙ omega (arith, range-long six)
 
-      pub range-is : {m : ℕ} → Small rec → More m ≡ termsOf rec s (lowerAt rec l) → ElementIs b rec at n m j
-      range-is {m} sm e = go (wholeIn (g .u)) refl (e ∙ ap (termsOf rec s) (lower-is b rec l (g .u) j sm (g .last)))
-        where
-          go : (o : Lower) → wholeIn (g .u) ≡ o → More m ≡ termsOf rec s o → ElementIs b rec at n m j
-          go (Whole lo) q h =
-              let x = range-from (g .lead) (g .u) lo (num4 rec s) (num4 rec (s + 4)) q in
-              let y = terms-is rec s (Whole lo) (More m) h in
-              record {
-                e = range (g .lead) (x .r) lo (num4 rec s) (num4 rec (s + 4));
-                is = made-of ∙ rw (six, long, up, inc, x .is, y .0);
-                inside = g .inside;
-                units = g .count;
-                counts = ap (λ z. z + 1) (sym (y .1));
-              }
-          go NotWhole q h = absurd (terms-is rec s NotWhole (More m) h)
+      -- what the answer on its terms says
+      abbrev RangeAs : Terms → Type 0
+      RangeAs (More m) = ElementIs b rec at n m j
+      RangeAs Bad = element b (drop at rec) ≡ none
 
-      pub range-bad : Small rec → Bad ≡ termsOf rec s (lowerAt rec l) → element b (drop at rec) ≡ none
-      range-bad sm e = go (wholeIn (g .u)) refl (e ∙ ap (termsOf rec s) (lower-is b rec l (g .u) j sm (g .last)))
-        where
-          go : (o : Lower) → wholeIn (g .u) ≡ o → Bad ≡ termsOf rec s o → element b (drop at rec) ≡ none
-          go (Whole lo) q h =
-              let x = range-from (g .lead) (g .u) lo (num4 rec s) (num4 rec (s + 4)) q in
-              made-of ∙ rw (six, long, up, inc, x .is, terms-is rec s (Whole lo) Bad h)
-          go NotWhole q h = made-of ∙ rw (six, long, up, inc, no-range (g .lead) (g .u) (num4 rec s) (num4 rec (s + 4)) q)
+      range-as : (o : Lower) → wholeIn (g .u) ≡ o → (r : Terms) → IsTerms rec s o r → RangeAs r
+      range-as (Whole lo) q (More m) y =
+          let x = range-from (g .lead) (g .u) lo (num4 rec s) (num4 rec (s + 4)) q in
+          record {
+            e = range (g .lead) (x .r) lo (num4 rec s) (num4 rec (s + 4));
+            is = made-of ∙ rw (six, long, up, inc, x .is, y .0);
+            inside = g .inside;
+            units = g .count;
+            counts = ap (λ z. z + 1) (sym (y .1));
+          }
+      range-as (Whole lo) q Bad y = made-of ∙ rw (six, long, up, inc, range-from (g .lead) (g .u) lo (num4 rec s) (num4 rec (s + 4)) q .is, y)
+      range-as NotWhole q (More m) y = absurd y
+      range-as NotWhole q Bad y = made-of ∙ rw (six, long, up, inc, no-range (g .lead) (g .u) (num4 rec s) (num4 rec (s + 4)) q)
+
+      module _ {r : Terms} (sm : Small rec) (e : r ≡ termsOf rec s (lowerAt rec l)) where
+        range-there : RangeAs r
+        range-there = range-as (wholeIn (g .u)) refl r (terms-is rec s (wholeIn (g .u)) r (e ∙ ap (termsOf rec s) (lower-is b rec l (g .u) j sm (g .last))))
+
+        pub range-is : {m : ℕ} → r ≡ More m → ElementIs b rec at n m j
+        range-is x = subst RangeAs x range-there
+
+        pub range-bad : r ≡ Bad → element b (drop at rec) ≡ none
+        range-bad x = subst RangeAs x range-there

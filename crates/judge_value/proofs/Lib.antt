@@ -1,4 +1,3 @@
-pub mod UnitBytes
 pub mod UnitsLaws
 pub mod ElementLaws
 pub mod ElementBytes

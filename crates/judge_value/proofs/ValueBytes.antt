@@ -16,8 +16,7 @@ use Rattle.rules.specs.Records.{isUnit, isElement, elementFields, many, bytesOf
 use Rattle.rules.specs.WellFormed.{wfElement, wfValue}
 use Rattle.rules.proofs.ValueBack.{v-lead, v-all, v-few, v-count, ok-length, and-both}
 use Rattle.record_walk.specs.Fronts.{headTag}
-use Rattle.record_walk.proofs.FrontLaws.{only-some, Small}
-use Rattle.record_walk.proofs.SeveralLaws.{goods, several-is, several-all}
+use Rattle.record_walk.proofs.FrontLaws.{only-some, Small, goods, several-is, several-all}
 use Rattle.judge_value.specs.Elements.{element, Before, joins, joining, nextElement, behind, noneBefore, value}
 use Rattle.judge_value.proofs.ElementBytes.{element-is, element-back}
 
@@ -35,15 +34,17 @@ next-is s r e r′ sm h q =
     only-some (joining s) (element (s .base) r) e r′ q
     (λ j k. let w = element-is (s .base) r e r′ sm h k in (rw (w .well, le-leb (length (leading e)) 3 (w .few), j), w .bytes))
 
+ruleset parts = (and-l, and-r)
+
 module _ (s : Before) (e : Element) (h : good s e ≡ true) where
   g-well : wfElement (s .base) (length (leading e)) e ≡ true
-  g-well = and-l (wfElement (s .base) (length (leading e)) e) (leb (length (leading e)) 3) (and-l (wfElement (s .base) (length (leading e)) e && leb (length (leading e)) 3) (joining s e) h)
+  g-well = search parts
 
   g-few : leb (length (leading e)) 3 ≡ true
-  g-few = and-r (wfElement (s .base) (length (leading e)) e) (leb (length (leading e)) 3) (and-l (wfElement (s .base) (length (leading e)) e && leb (length (leading e)) 3) (joining s e) h)
+  g-few = search parts
 
   g-joins : joining s e ≡ true
-  g-joins = and-r (wfElement (s .base) (length (leading e)) e && leb (length (leading e)) 3) (joining s e) h
+  g-joins = search parts
 
 good-of : (s : Before) (e : Element) → wfElement (s .base) (length (leading e)) e ≡ true → leb (length (leading e)) 3 ≡ true → joining s e ≡ true → good s e ≡ true
 good-of s e h k j = rw (h, k, j)
@@ -70,10 +71,10 @@ closes (range l r lo up inc) rest = refl
 
 -- ---- joined elements and the rule on values
 
-abbrev state : Base → ℕ → ℕ → Before
+abbrev pub state : Base → ℕ → ℕ → Before
 state b k a = record { base = b; units = k; arguments = a }
 
-joins-sum : (k a n m : ℕ) → joins k a n m ≡ true → a + m ≤ 4096
+pub joins-sum : (k a n m : ℕ) → joins k a n m ≡ true → a + m ≤ 4096
 unfolding joins
 joins-sum k a n m h = leb-true (a + m) 4096 (and-l (leb (a + m) 4096) (eqb k 0 || eqb k n) h)
 

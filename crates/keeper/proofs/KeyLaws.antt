@@ -20,8 +20,8 @@ pub key-cancel : (k : Keeper) (c : ℕ) {r : Pressed} → k .count ≤ mostText 
 unfolding afterKey pressing
 key-cancel k c h j q = rw (le-leb (k .count) 1024 h, j) q
 
-pub start-most : (k : Keeper) (b : Bool) {n : ℕ} → k .count ≤ mostText → n ≡ pick b 0 (k .count) → n ≤ mostText
-start-most k b h f = rw f (pick-all (λ m. m ≤ 1024) b (omega arith) h)
+pub back-most : (k : Keeper) (b : Bool) (m n : ℕ) → k .count ≤ mostText → n ≡ pick b 0 (k .count) → m ≡ n - 1 → m ≤ mostText
+back-most k b m n h f g = let most : n ≤ mostText = rw f (pick-all (λ i. i ≤ 1024) b (omega arith) h) in omega arith
 
 -- the key finds n bytes of the line
 module _ (k : Keeper) (c : ℕ) {b : Bool} {n : ℕ} (h : k .count ≤ mostText) (e : b ≡ ready (held k)) (f : n ≡ pick b 0 (k .count)) where

@@ -1,11 +1,11 @@
 -- Choosing by a test, and cases on a test, an option or a conjunction with their equations.
 use mathlib.Core.Path.{_≡_, refl, sym, _∙_}
-use mathlib.Core.Bool.{Bool, true, false, cond, _&&_, _||_, false≢true}
+use mathlib.Core.Bool.{Bool, true, false, cond, _&&_, _||_, false≢true, Bool·beq}
 use mathlib.Core.Option.{Option, none, some}
 use Prim.Native.Nat.{ℕ}
 use native.Mathlib.Omega.{arith}
 use lib.Dec.{eqb}
-use borrow.Author.Tests.{eqb-true, eq-eqb}
+use borrow.Author.Tests.{eqb-true, eq-eqb, leb-true, ltb-true, not-true}
 
 -- the type of what always holds, under a name that leaves `Unit` to the paper's units
 abbrev pub Always : Type 0
@@ -70,6 +70,10 @@ pub or-l : (a b : Bool) → a ≡ true → a || b ≡ true
 or-l true b h = refl
 or-l false b h = absurd (false≢true h)
 
+pub or-r : (a b : Bool) → b ≡ true → a || b ≡ true
+or-r true b h = refl
+or-r false b h = h
+
 pub or-true : (a : Bool) → a || true ≡ true
 or-true true = refl
 or-true false = refl
@@ -77,6 +81,19 @@ or-true false = refl
 pub or-cases : {C : Type 0} (a b : Bool) → a || b ≡ true → (a ≡ true → C) → (b ≡ true → C) → C
 or-cases true b h f g = f refl
 or-cases false b h f g = g h
+
+pub or-false : (a b : Bool) → a || b ≡ false → (a ≡ false) × (b ≡ false)
+or-false true b h = absurd (false≢true (sym h))
+or-false false b h = (refl, h)
+
+-- the parts of a conjunction of tests, and what they say of numbers: `search conjuncts` finds each
+pub ruleset conjuncts = (and-l, and-r, leb-true, ltb-true, eqb-true, not-true)
+
+pub beq-same : (a b : Bool) → Bool·beq a b ≡ true → a ≡ b
+beq-same true true h = refl
+beq-same true false h = absurd (false≢true h)
+beq-same false true h = absurd (false≢true h)
+beq-same false false h = refl
 
 pub eqb-sym : (a b : ℕ) → eqb a b ≡ eqb b a
 eqb-sym a b =

@@ -51,6 +51,14 @@ all-concat f [] h = refl
 all-concat f (xs ∷ xss) h =
     all-append f xs (concat xss) (and-l (all f xs) (all (all f) xss) h) (all-concat f xss (and-r (all f xs) (all (all f) xss) h))
 
+pub all-mono : {A : Type 0} (f g : A → Bool) → ((a : A) → f a ≡ true → g a ≡ true) → (xs : List A) → all f xs ≡ true → all g xs ≡ true
+all-mono f g k [] h = refl
+all-mono f g k (x ∷ xs) h = rw (k x (and-l (f x) (all f xs) h)) (all-mono f g k xs (and-r (f x) (all f xs) h))
+
+pub all-map : {A B : Type 0} (f : A → Bool) (g : B → Bool) (m : A → B) → ((a : A) → f a ≡ true → g (m a) ≡ true) → (xs : List A) → all f xs ≡ true → all g (map m xs) ≡ true
+all-map f g m k [] h = refl
+all-map f g m k (x ∷ xs) h = rw (k x (and-l (f x) (all f xs) h)) (all-map f g m k xs (and-r (f x) (all f xs) h))
+
 -- what holds of all holds of each
 pub all-member : {A : Type 0} (f : A → Bool) (xs : List A) (y : A) (ys : List A) → all f (xs ++ (y ∷ ys)) ≡ true → f y ≡ true
 all-member f [] y ys h = and-l (f y) (all f ys) h

@@ -21,9 +21,6 @@ pub record Same (a b : List ℕ) (i : ℕ) : Type 0 where
   pub is : eqL a b ≡ eqL (drop i a) (drop i b)
   pub long : length a ≡ length b
 
-pub same-none : (a b : List ℕ) → length a ≡ length b → Same a b 0
-same-none a b h = record { is = refl; long = h }
-
 module _ {a b : List ℕ} {i : ℕ} (v : Same a b i) where
   pub same-end : length a ≤ i → true ≡ eqL a b
   same-end h = sym (v .is ∙ rw (drop-of-length-le a h, drop-of-length-le b {i = i} (omega (arith, v .long))))

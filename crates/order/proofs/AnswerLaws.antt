@@ -2,11 +2,11 @@
 use mathlib.Core.Path.{_≡_, sym, ap, _∙_, subst}
 use mathlib.Core.Bool.{true, false}
 use mathlib.Core.List.{List, _++_, map}
-use Prim.Native.Nat.{ℕ, _≤_, _<_}
+use Prim.Native.Nat.{ℕ, _*_, _≤_, _<_}
 use native.Mathlib.Omega.{arith}
 use borrow.Author.Tests.{lt-leb, le-leb, lt-ltb, le-ltb}
 use lib.Dec.{leb, ltb}
-use lib.ListN.{length, take, drop, length-append}
+use lib.ListN.{length, take, drop, replicate, length-append}
 use lib.Seq.{take-at, length-take-le}
 use Rattle.laws.specs.Over.{over}
 use Rattle.rules.specs.Refusals.{ok, bad, noRoom, notWellFormed, noSuchOrder}
@@ -18,9 +18,12 @@ use Rattle.rules.specs.WellFormed.{recordOf}
 use Rattle.rules.specs.declared.Answer.{Answer}
 use Rattle.rules.specs.declared.Answer.the-variants.{Done, Refused}
 use Rattle.rules.proofs.ResultLaws.{ok-inj}
+use Rattle.judge.specs.Judged.{perPlace, rowLength, IsGood, Judges}
+use Rattle.judge.specs.declared.Judged.{Judged}
+use Rattle.judge.specs.declared.Judged.the-variants.{Good, Bad}
 use Rattle.order.specs.Reduced.{positionsOf, placesIn, reduced}
-use Rattle.order.specs.Plans.{positionsIn, Plans}
-use Rattle.order.proofs.OrderLaws.{reduced-order}
+use Rattle.order.specs.Plans.{Told, positionsIn, Planned, Plans}
+use Rattle.order.proofs.PartLaws.{reduced-order}
 
 -- ---- the buffer
 
@@ -30,42 +33,73 @@ module _ (w old : List ℕ) where
       let t : leb (length w) (length old) ≡ false = lt-leb (length w) (length old) (omega arith) in
       record { answers = rw (t, e); holds = rw t }
 
-  pub room : {n : ℕ} {new : List ℕ} → n ≡ length w → n ≤ length old → new ≡ over w old → Promise (fitted old (ok w)) old (Done n) new
+  pub measured-fits : {n : ℕ} → n ≡ length w → n ≤ length old → length w ≤ length old
+  measured-fits e h = omega arith
+
+  pub room : {n : ℕ} {new : List ℕ} → n ≡ length w → length w ≤ length old → new ≡ over w old → Promise (fitted old (ok w)) old (Done n) new
   room e h q =
-      let t : leb (length w) (length old) ≡ true = le-leb (length w) (length old) (omega arith) in
+      let t : leb (length w) (length old) ≡ true = le-leb (length w) (length old) h in
       record { answers = rw (t, e); holds = rw t q }
 
 -- ---- the call
 
-module _ (rec : List ℕ) (k : ℕ) (old : List ℕ) where
-  pub order-bad : recordOf rec ≡ bad notWellFormed 0 → Orders rec k old (Refused notWellFormed 0) old
+pub order-bad : (rec row old : List ℕ) (k : ℕ) {r : Judged} → r ≡ Bad → Judges rec (replicate rowLength 0) row r → Orders rec k old (Refused notWellFormed 0) old
+unfolding ordering
+order-bad rec row old k e j =
+    let h : recordOf rec ≡ bad notWellFormed 0 = subst (Judges rec (replicate rowLength 0) row) e j in
+    record { answers = rw h; holds = rw h }
+
+module _ (rec row : List ℕ) {r : Judged} {n t : ℕ} (e : r ≡ Good n t) (j : Judges rec (replicate rowLength 0) row r) where
+  judged : IsGood rec (replicate rowLength 0) row n t
+  judged = subst (Judges rec (replicate rowLength 0) row) e j
+
+  -- all places' numbers stand in the row
+  pub judged-row : perPlace * n ≤ length row
+  judged-row = omega (arith, judged)
+
+  pub judged-count : perPlace * n < 18446744073709551616
+  judged-count = omega (arith, judged)
+
+  pub judged-cut : perPlace * n ≡ length (take (perPlace * n) row)
+  judged-cut = sym (length-take-le (perPlace * n) row judged-row)
+
+  -- and are what the record has
+  pub judged-told : Told rec (take (perPlace * n) row)
+  judged-told = record { tree = judged .tree; is = judged .is; told = judged .told (omega arith) }
+
+  pub order-past : (k : ℕ) (old : List ℕ) → t ≤ k → Orders rec k old (Refused noSuchOrder t) old
   unfolding ordering
-  order-bad h = record { answers = rw h; holds = rw h }
+  order-past k old l =
+      let h : recordOf rec ≡ ok (judged .tree) = judged .is in
+      let q : ltb k (count (judged .tree)) ≡ false = le-ltb k (count (judged .tree)) (omega (arith, judged .total)) in
+      record { answers = rw (h, q) (ap (Refused noSuchOrder) (judged .total)); holds = rw (h, q) }
 
-  module _ (c : Command) (h : recordOf rec ≡ ok c) where
-    pub order-past : {t : ℕ} → t ≡ count c → t ≤ k → Orders rec k old (Refused noSuchOrder t) old
-    unfolding ordering
-    order-past e l =
-        let q : ltb k (count c) ≡ false = le-ltb k (count c) (omega arith) in
-        record { answers = rw (h, q, e); holds = rw (h, q) }
+  -- ps left in the row's front, which was lent
+  module _ (ps : List ℕ) (l : length ps ≡ length (take (perPlace * n) row)) where
+    abbrev new-row : List ℕ
+    new-row = ps ++ drop (perPlace * n) row
 
-    pub order-at : {t : ℕ} {row new : List ℕ} {r : Answer} → t ≡ count c → k < t → Plans rec k row
-        → Promise (fitted old (ok (reduced rec (positionsIn row)))) old r new → Orders rec k old r new
-    unfolding ordering
-    order-at {t} {row} {new} {r} e l f p =
-        let q : ltb k (count c) ≡ true = lt-ltb k (count c) (omega arith) in
-        let same : f .planned .tree ≡ c = ok-inj (sym (f .planned .is) ∙ h) in
-        let ns : positionsIn row ≡ positionsOf (map placeCount (placesIn c)) k =
-        f .positions ∙ ap (λ (d : Command). positionsOf (map placeCount (placesIn d)) k) same in
-        let w : reduced rec (positionsIn row) ≡ encode (orderAt c k) = ap (reduced rec) ns ∙ reduced-order rec c k h in
-        rw (h, q) (subst (λ (x : List ℕ). Promise (fitted old (ok x)) old r new) w p)
+    pub front-inside : perPlace * n ≤ length new-row
+    front-inside = omega (arith, length-append ps (drop (perPlace * n) row), judged-cut)
 
--- ---- the row's front, which is lent
+    front-is : take (perPlace * n) new-row ≡ ps
+    front-is = take-at ps (drop (perPlace * n) row) (perPlace * n) (l ∙ sym judged-cut)
 
--- what was left in the front stands there
-pub front-is : (row ps : List ℕ) {n : ℕ} → n ≤ length row → length ps ≡ length (take n row) → take n (ps ++ drop n row) ≡ ps
-front-is row ps {n} h e = take-at ps (drop n row) n (e ∙ length-take-le n row h)
+    pub front-cut : perPlace * n ≡ length (take (perPlace * n) new-row)
+    front-cut = sym (length-take-le (perPlace * n) new-row front-inside)
 
--- and the row is as long as it was
-pub front-inside : (row ps : List ℕ) {n : ℕ} → n ≤ length row → length ps ≡ length (take n row) → n ≤ length (ps ++ drop n row)
-front-inside row ps {n} h e = omega (arith, length-append ps (drop n row), length-take-le n row h)
+    module _ {k : ℕ} (f : Plans rec k ps) where
+      pub front-planned : Planned rec (take (perPlace * n) new-row)
+      front-planned = subst (Planned rec) (sym front-is) (f .planned)
+
+      pub order-at : (old new : List ℕ) {a : Answer} → k < t → Promise (fitted old (ok (reduced rec (positionsIn (take (perPlace * n) new-row))))) old a new → Orders rec k old a new
+      unfolding ordering
+      order-at old new {a} h p =
+          let c : Command = judged .tree in
+          let q : ltb k (count c) ≡ true = lt-ltb k (count c) (omega (arith, judged .total)) in
+          let same : f .planned .tree ≡ c = ok-inj (sym (f .planned .is) ∙ judged .is) in
+          let ns : positionsIn ps ≡ positionsOf (map placeCount (placesIn c)) k =
+          f .positions ∙ ap (λ (d : Command). positionsOf (map placeCount (placesIn d)) k) same in
+          let w : reduced rec (positionsIn (take (perPlace * n) new-row)) ≡ encode (orderAt c k) =
+          ap (λ (x : List ℕ). reduced rec (positionsIn x)) front-is ∙ ap (reduced rec) ns ∙ reduced-order rec c k (judged .is) in
+          rw (judged .is, q) (subst (λ (x : List ℕ). Promise (fitted old (ok x)) old a new) w p)

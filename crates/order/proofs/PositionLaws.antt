@@ -7,7 +7,7 @@ use native.Mathlib.Nat.{le-refl}
 use native.Mathlib.Omega.{arith}
 use borrow.Author.Tests.{lt-ltb, ltb-false, ne-eqb, leb-true}
 use lib.Dec.{ltb}
-use lib.ListN.{length, getD, take, drop, set, length-append, length-drop, length-take, List·getD-append}
+use lib.ListN.{length, getD, take, drop, set, length-set, length-take, List·getD-append}
 use lib.Seq.{take-add, set-at, take-length, drop-length, length-take-le, getD-take}
 use Rattle.laws.specs.Cases.{byBool, pick, and-l, and-r}
 use Rattle.laws.specs.Lists.{all, next}
@@ -24,14 +24,12 @@ use Rattle.record_walk.specs.Spans.{size, headFields, spansOf}
 use Rattle.record_walk.proofs.RunLaws.{drop-behind}
 use Rattle.order.specs.Reduced.{positionsOf, Part, kept, placed, partFields, partsBytes, partsOf, Below, placesIn}
 use Rattle.order.specs.Plans.{Told, keptMark, isReduced, planOf, positionIn, positionsIn, Plans, slotFor, goesOn}
-use Rattle.order.proofs.PartLaws.{partPlaces, finePart, parts-fields, parts-in, parts-fine, part-tag}
-use Rattle.order.proofs.OrderLaws.{behind, leftOf, positions-below}
-use Rattle.order.proofs.SpanLaws.{partSpans, spans-long, spans-are}
+use Rattle.order.proofs.PartLaws.{partPlaces, finePart, parts-fields, parts-in, parts-fine, part-tag, partSpans, spans-long, spans-are, behind, leftOf, positions-below}
 
 -- ---- the loop
 
 -- the last places' numbers made positions, and what is left of k before them
-abbrev pub planBack : List ℕ → List ℕ → ℕ → List ℕ × ℕ
+abbrev planBack : List ℕ → List ℕ → ℕ → List ℕ × ℕ
 planBack rec [] k = ([], k)
 planBack rec (n ∷ []) k = (n ∷ [], k)
 planBack rec (n ∷ (s ∷ [])) k = (n ∷ s ∷ [], k)
@@ -44,12 +42,7 @@ pub record Placing (rec row : List ℕ) (k i l : ℕ) (o : List ℕ) : Type 0 wh
   pub threes : i ≡ 3 * turns
   pub left : l ≡ (planBack rec (drop i row) k) .1
   pub out : o ≡ take i row ++ (planBack rec (drop i row) k) .0
-
-plan-long : (rec row : List ℕ) (k : ℕ) → length ((planBack rec row k) .0) ≡ length row
-plan-long rec [] k = refl
-plan-long rec (n ∷ []) k = refl
-plan-long rec (n ∷ (s ∷ [])) k = refl
-plan-long rec (n ∷ (s ∷ (e ∷ row))) k = omega (arith, plan-long rec row k)
+  pub long : length o ≡ length row
 
 told-long : {rec row : List ℕ} (t : Told rec row) → length row ≡ 3 * length (partPlaces (partsOf (t .tree)))
 told-long t = ap length (t .told ∙ spans-are (t .tree)) ∙ spans-long 0 (partsOf (t .tree))
@@ -62,48 +55,32 @@ placing-none {rec} {row} k t =
       threes = told-long t;
       left = rw drop-length;
       out = rw (drop-length, append-nil, take-length);
+      long = refl;
     }
 
 -- a place's three numbers
-three-front : (row : List ℕ) (j : ℕ) → j + 3 ≤ length row → drop j row ≡ getD row j 0 ∷ getD row (j + 1) 0 ∷ getD row (j + 2) 0 ∷ drop (j + 3) row
+pub three-front : (row : List ℕ) (j : ℕ) → j + 3 ≤ length row → drop j row ≡ getD row j 0 ∷ getD row (j + 1) 0 ∷ getD row (j + 2) 0 ∷ drop (j + 3) row
 three-front row j h =
     let two : j + 1 + 1 ≡ j + 2 = omega arith in
     let three : j + 2 + 1 ≡ j + 3 = omega arith in
-    let third : drop (j + 2) row ≡ getD row (j + 2) 0 ∷ drop (j + 3) row =
-    next row (j + 2) (omega arith) ∙ ap (λ (n : ℕ). getD row (j + 2) 0 ∷ drop n row) three in
-    let second : drop (j + 1) row ≡ getD row (j + 1) 0 ∷ getD row (j + 2) 0 ∷ drop (j + 3) row =
-    next row (j + 1) (omega arith) ∙ ap (λ (n : ℕ). getD row (j + 1) 0 ∷ drop n row) two ∙ ap (λ (r : List ℕ). getD row (j + 1) 0 ∷ r) third in
-    next row j (omega arith) ∙ ap (λ (r : List ℕ). getD row j 0 ∷ r) second
+    rw (next row j (omega arith), next row (j + 1) (omega arith), two, next row (j + 2) (omega arith), three)
 
 three-back : (row : List ℕ) (j : ℕ) → j + 3 ≤ length row → take (j + 3) row ≡ take j row ++ (getD row j 0 ∷ getD row (j + 1) 0 ∷ getD row (j + 2) 0 ∷ [])
 three-back row j h = take-add j 3 row ∙ ap (λ (r : List ℕ). take j row ++ take 3 r) (three-front row j h)
 
 module _ {rec row o : List ℕ} {k i l : ℕ} (d : Placing rec row k i l o) where
-  pub placing-long : length o ≡ length row
-  placing-long =
-      omega (
-        arith,
-        ap length (d .out),
-        length-append (take i row) ((planBack rec (drop i row) k) .0),
-        plan-long rec (drop i row) k,
-        length-take i row,
-        length-drop i row,
-        d .low,
-      )
-
-  -- a turn has three numbers before it
-  pub placing-some : 0 < i → 3 ≤ i
-  placing-some h = omega (arith, d .threes)
-
   -- what stands before i is still as it was
-  pub placing-next : (j : ℕ) → j < i → getD o j 0 ≡ getD row j 0
+  placing-next : (j : ℕ) → j < i → getD o j 0 ≡ getD row j 0
   placing-next j h =
       ap (λ (x : List ℕ). getD x j 0) (d .out)
       ∙ List·getD-append (take i row) ((planBack rec (drop i row) k) .0) 0 j (omega (arith, length-take i row, d .low))
       ∙ getD-take i row j 0 h
 
-  pub placing-more : (j : ℕ) → i ≡ j + 3 → Placing rec row k j (goesOn (getD row j 0) l) (set o j (slotFor rec (getD row (j + 1) 0) (getD row j 0) l))
-  placing-more j e =
+  -- a turn: the last place's number becomes its position
+  pub placing-more : {p q : ℕ} → 0 < i → p ≡ slotFor rec (getD o (i - 3 + 1) 0) (getD o (i - 3) 0) l → q ≡ goesOn (getD o (i - 3) 0) l → Placing rec row k (i - 3) q (set o (i - 3) p)
+  placing-more some ep eq =
+      let j : ℕ = i - 3 in
+      let e : i ≡ j + 3 = omega (arith, d .threes) in
       let h : j + 3 ≤ length row = omega (arith, d .low) in
       let n : ℕ = getD row j 0 in
       let s : ℕ = getD row (j + 1) 0 in
@@ -114,15 +91,16 @@ module _ {rec row o : List ℕ} {k i l : ℕ} (d : Placing rec row k i l o) wher
       (rw e at (d .out)) ∙ ap (λ (x : List ℕ). x ++ b) (three-back row j h) ∙ append-assoc (take j row) (n ∷ s ∷ t ∷ []) b in
       let f : planBack rec (drop j row) k ≡ (slotFor rec s n l ∷ s ∷ t ∷ b, goesOn n l) =
       ap (λ (r : List ℕ). planBack rec r k) (three-front row j h) ∙ ap (λ (q : ℕ). (slotFor rec s n q ∷ s ∷ t ∷ b, goesOn n q)) (sym dl) in
-      record {
+      rw (ep, eq, placing-next j (omega arith), placing-next (j + 1) (omega arith)) (record {
         low = omega arith;
         turns = d .turns - 1;
         threes = omega (arith, d .threes);
         left = ap (λ (x : List ℕ × ℕ). x .1) (sym f);
+        long = length-set o j (slotFor rec s n l) ∙ d .long;
         out =
             ap (λ (x : List ℕ). set x j (slotFor rec s n l)) dout ∙ set-at (take j row) n (s ∷ t ∷ b) (slotFor rec s n l) j (length-take-le j row (omega arith))
             ∙ ap (λ (x : List ℕ × ℕ). take j row ++ x .0) (sym f);
-      }
+      })
 
 -- ---- one place: what the code puts is what the plan says
 
@@ -208,7 +186,7 @@ slot-position b v n w h =
     (λ y. let z : n ≡ 0 = omega (arith, reduced-one v y) in rw y (sym z))
     (λ y. rw (y, lt-ltb n keptMark (position-low b v n w h)))
 
-pub plan-positions : (at : ℕ) (ps : List Part) (ns : List ℕ) → all finePart ps ≡ true → Below (partPlaces ps) ns → positionsIn (planOf at ps ns) ≡ ns
+plan-positions : (at : ℕ) (ps : List Part) (ns : List ℕ) → all finePart ps ≡ true → Below (partPlaces ps) ns → positionsIn (planOf at ps ns) ≡ ns
 unfolding positionsIn
 plan-positions at [] [] h b = refl
 plan-positions at [] (n ∷ ns) h b = absurd b

@@ -1,27 +1,33 @@
--- The bytes of an element tell its terms: in a range's bytes upper end and increment stand at the front, the lower end at the back, and what stands
+-- The bytes of an element tell its terms, and so where the n-th argument of a value is: in a range's bytes upper end and increment stand at the front, the lower end at the back, and what stands
 -- between are the leading units.
-use mathlib.Core.Path.{_≡_, sym, ap, _∙_}
-use mathlib.Core.Bool.{Bool, true, false, _&&_}
+use mathlib.Core.Path.{_≡_, refl, sym, ap, _∙_}
+use mathlib.Core.Bool.{Bool, true, false, false≢true}
 use mathlib.Core.List.{List, [], _∷_, _++_, map, map-append, append-assoc, append-nil}
-use Prim.Native.Nat.{ℕ, _+_, _-_, _*_, _/_, _≤_}
+use Prim.Native.Nat.{ℕ, _+_, _-_, _*_, _/_, _≤_, _<_}
 use native.Mathlib.Nat.{le-refl, mul-le-mul-right, div-mul-le-self}
 use native.Mathlib.Omega.{arith}
-use borrow.Author.Tests.{le-leb, leb-true}
+use borrow.Author.Tests.{le-leb, leb-true, lt-ltb, le-ltb}
 use lib.Dec.{leb, eqb}
 use lib.ListN.{length, getD, take, drop, length-append, length-take, length-drop}
 use lib.Seq.{getD-append-add, take-at}
 use Rattle.laws.specs.Cases.{byBool, and-l, and-r, and-false}
+use Rattle.laws.specs.Over.{over, part, back as given, back-over}
 use Rattle.rules.specs.Units.{Base, Radix, radixLetter, Unit, num}
-use Rattle.rules.specs.Commands.{Element, single, range, terms}
-use Rattle.rules.specs.Records.{field, fourBytes, fieldBytes, bytesOf, unitField, elementFields, num4}
-use Rattle.rules.specs.WellFormed.{wfUnit, wfElement}
-use Rattle.rules.specs.Orders.{termAt}
+use Rattle.rules.specs.Commands.{Element, single, range, terms, sum}
+use Rattle.rules.specs.Records.{field, fourBytes, fieldBytes, bytesOf, unitField, elementFields, num4, many, singleTag, stringTag, isUnit}
+use Rattle.rules.specs.WellFormed.{wfElement}
+use Rattle.rules.specs.Orders.{termAt, argumentAt}
 use Rattle.rules.proofs.DecodeEncode.{four, value-small}
-use Rattle.rules.proofs.FieldLaws.{bytes-append}
+use Rattle.rules.proofs.FieldLaws.{bytes-append, bytes-cons}
 use Rattle.rules.proofs.ValueBack.{ok-last, ok-range}
 use Rattle.record_walk.specs.Fronts.{tagOf}
 use Rattle.fields.specs.Units.{numeralBytes}
-use Rattle.order_argument.specs.Terms.{isRange, moreTerms, termValue, lastUnitAt, termBytes, argumentBytes}
+use Rattle.order_argument.specs.Terms.{isRange, moreTerms, termValue, lastUnitAt, termBytes, argumentBytes, IsArgument}
+use Rattle.laws.specs.Lists.{all}
+use Rattle.rules.specs.Characters.{between}
+use Rattle.record_walk.specs.Runs.{Whole, ElementTo, bytesIn}
+use Rattle.order_argument.specs.declared.Argument.{Argument}
+use Rattle.record_walk.proofs.RunLaws.{drop-behind}
 
 -- ---- fields of units one behind the other
 
@@ -45,6 +51,8 @@ num4-behind p w i e =
 
 -- ---- a range's bytes
 
+ruleset parts = (and-l, and-r)
+
 module _ (l : List Unit) (r : Radix) (lo up inc : ℕ) where
   -- tag, length, upper end and increment
   abbrev ends : List ℕ
@@ -66,19 +74,6 @@ module _ (l : List Unit) (r : Radix) (lo up inc : ℕ) where
   unfolding isRange
   range-is = rw (le-leb 20 (length whole) (omega (arith, whole-long)))
 
-  upper-is : leb up 4294967295 ≡ true → num4 whole 3 ≡ up
-  upper-is h = four up h
-
-  increment-is : leb inc 4294967295 ≡ true → num4 whole 7 ≡ inc
-  increment-is h = four inc h
-
-  lower-is : leb lo 4294967295 ≡ true → num4 whole (length whole - 4) ≡ lo
-  lower-is h =
-      let p : List ℕ = ends ++ (lead ++ (7 ∷ 0 ∷ 6 ∷ radixLetter r ∷ 0 ∷ [])) in
-      let e : whole ≡ p ++ fourBytes lo = whole-is ∙ ap (λ (x : List ℕ). ends ++ x) (sym (append-assoc lead (7 ∷ 0 ∷ 6 ∷ radixLetter r ∷ 0 ∷ []) (fourBytes lo))) in
-      let n : length p ≡ length whole - 4 = omega (arith, whole-long, length-append lead (7 ∷ 0 ∷ 6 ∷ radixLetter r ∷ 0 ∷ [])) in
-      ap (λ (x : List ℕ). num4 x (length whole - 4)) e ∙ num4-behind p (fourBytes lo) (length whole - 4) n ∙ four lo h
-
   letter-is : getD whole (lastUnitAt whole + 3) 0 ≡ radixLetter r
   letter-is =
       let p : List ℕ = ends ++ (lead ++ (7 ∷ 0 ∷ 6 ∷ [])) in
@@ -92,23 +87,20 @@ module _ (l : List Unit) (r : Radix) (lo up inc : ℕ) where
       ap (λ (x : List ℕ). take (lastUnitAt whole - 11) (drop 11 x)) whole-is
       ∙ take-at lead (fieldBytes (unitField (num r 0 lo))) (lastUnitAt whole - 11) (omega (arith, whole-long))
 
--- what a well-formed range's numbers are
-pub record Sized (lo up inc : ℕ) : Type 0 where
-  pub lower : leb lo 4294967295 ≡ true
-  pub upper : leb up 4294967295 ≡ true
-  pub increment : leb inc 4294967295 ≡ true
+  -- a well-formed range's numbers fit their bytes
+  module _ (b : Base) (m : ℕ) (h : wfElement b m (range l r lo up inc) ≡ true) where
+    upper-is : num4 whole 3 ≡ up
+    upper-is = four up (value-small b r 0 up (search (parts, ok-range b m (range l r lo up inc) h)))
 
-sized : (b : Base) (m : ℕ) (l : List Unit) (r : Radix) (lo up inc : ℕ) → wfElement b m (range l r lo up inc) ≡ true → Sized lo up inc
-sized b m l r lo up inc h =
-    let e : Element = range l r lo up inc in
-    let wu : Bool = wfUnit b (num r 0 up) in
-    let wi : Bool = wfUnit b (num r 0 inc) in
-    let both : wu && wi ≡ true = and-l (wu && wi) (leb lo up) (and-l (wu && wi && leb lo up) (leb 1 inc) (ok-range b m e h)) in
-    record {
-      lower = value-small b r 0 lo (ok-last b m e h);
-      upper = value-small b r 0 up (and-l wu wi both);
-      increment = value-small b r 0 inc (and-r wu wi both);
-    }
+    increment-is : num4 whole 7 ≡ inc
+    increment-is = four inc (value-small b r 0 inc (search (parts, ok-range b m (range l r lo up inc) h)))
+
+    lower-is : num4 whole (length whole - 4) ≡ lo
+    lower-is =
+        let p : List ℕ = ends ++ (lead ++ (7 ∷ 0 ∷ 6 ∷ radixLetter r ∷ 0 ∷ [])) in
+        let e : whole ≡ p ++ fourBytes lo = whole-is ∙ ap (λ (x : List ℕ). ends ++ x) (sym (append-assoc lead (7 ∷ 0 ∷ 6 ∷ radixLetter r ∷ 0 ∷ []) (fourBytes lo))) in
+        let n : length p ≡ length whole - 4 = omega (arith, whole-long, length-append lead (7 ∷ 0 ∷ 6 ∷ radixLetter r ∷ 0 ∷ [])) in
+        ap (λ (x : List ℕ). num4 x (length whole - 4)) e ∙ num4-behind p (fourBytes lo) (length whole - 4) n ∙ four lo (value-small b r 0 lo (ok-last b m (range l r lo up inc) h))
 
 single-is : (l : List Unit) (u : Unit) → isRange (bytesOf (elementFields (single l u))) ≡ false
 unfolding isRange
@@ -120,24 +112,15 @@ module _ (b : Base) (m : ℕ) where
   unfolding moreTerms
   terms-are (single l u) h = rw (single-is l u)
   terms-are (range l r lo up inc) h =
-      let s : Sized lo up inc = sized b m l r lo up inc h in
-      rw (range-is l r lo up inc, upper-is l r lo up inc (s .upper), increment-is l r lo up inc (s .increment), lower-is l r lo up inc (s .lower))
+      rw (range-is l r lo up inc, upper-is l r lo up inc b m h, increment-is l r lo up inc b m h, lower-is l r lo up inc b m h)
 
   -- the bytes of its n-th term
   pub term-is : (e : Element) (n : ℕ) → wfElement b m e ≡ true → argumentBytes (bytesOf (elementFields e)) n ≡ bytesOf (elementFields (termAt e n))
   unfolding argumentBytes termBytes termValue numeralBytes
   term-is (single l u) n h = rw (single-is l u)
   term-is (range l r lo up inc) n h =
-      let s : Sized lo up inc = sized b m l r lo up inc h in
-      let u : Unit = num r 0 (lo + n * inc) in
-      rw (
-        range-is l r lo up inc,
-        lead-is l r lo up inc,
-        letter-is l r lo up inc,
-        increment-is l r lo up inc (s .increment),
-        lower-is l r lo up inc (s .lower),
-      )
-      (ap (λ (x : List ℕ). 5 ∷ 0 ∷ 0 ∷ x) (sym (units-bytes l u)))
+      rw (range-is l r lo up inc, lead-is l r lo up inc, letter-is l r lo up inc, increment-is l r lo up inc b m h, lower-is l r lo up inc b m h)
+      (ap (λ (x : List ℕ). 5 ∷ 0 ∷ 0 ∷ x) (sym (units-bytes l (num r 0 (lo + n * inc)))))
 
 -- ---- lengths and limits
 
@@ -145,14 +128,38 @@ pub range-long : (x : List ℕ) → isRange x ≡ true → 20 ≤ length x
 unfolding isRange
 range-long x h = leb-true 20 (length x) (and-l (leb 20 (length x)) (eqb (tagOf x) 6) h)
 
-pub lead-long : (x : List ℕ) → isRange x ≡ true → length (take (lastUnitAt x - 11) (drop 11 x)) ≡ length x - 20
-lead-long x h = omega (arith, range-long x h, length-take (lastUnitAt x - 11) (drop 11 x), length-drop 11 x)
+-- where a test says that it is one
+pub tested-long : (x : List ℕ) {r : Bool} → r ≡ isRange x → r ≡ true → 20 ≤ length x
+tested-long x e h = range-long x (sym e ∙ h)
 
-pub term-long : (x : List ℕ) (n : ℕ) → isRange x ≡ true → length (termBytes x n) ≡ length x - 8
+-- the sizes of a range and of its term, which has 8 bytes less: upper end and increment
+pub record RangeSizes (x : List ℕ) (n : ℕ) : Type 0 where
+  pub range : 20 ≤ length x
+  pub lead : length (take (lastUnitAt x - 11) (drop 11 x)) ≡ length x - 20
+  pub term : length (termBytes x n) ≡ length x - 8
+
+pub range-sizes : (x : List ℕ) (n : ℕ) → isRange x ≡ true → RangeSizes x n
 unfolding termBytes numeralBytes
-term-long x n h =
+range-sizes x n h =
     let w : List ℕ = numeralBytes (getD x (lastUnitAt x + 3) 0) 0 (termValue x n) in
-    omega (arith, range-long x h, lead-long x h, length-append (fieldBytes (field 5 []) ++ take (lastUnitAt x - 11) (drop 11 x)) w)
+    let lead : length (take (lastUnitAt x - 11) (drop 11 x)) ≡ length x - 20 =
+    omega (arith, range-long x h, length-take (lastUnitAt x - 11) (drop 11 x), length-drop 11 x) in
+    record {
+      range = range-long x h;
+      lead = lead;
+      term = omega (arith, range-long x h, lead, length-append (fieldBytes (field 5 []) ++ take (lastUnitAt x - 11) (drop 11 x)) w);
+    }
+
+-- the term is written: its head, the leading units, and the last unit with the lower end's letter
+pub term-over : (x out : List ℕ) (n : ℕ) {p v : ℕ} {o o′ ys : List ℕ} → isRange x ≡ true → v ≡ termValue x n → p ≡ 3 → o ≡ over (fieldBytes (field 5 [])) out
+    → o′ ≡ over (take (lastUnitAt x - 11) (drop 11 x)) (part o p) → ys ≡ over (numeralBytes (getD x (lastUnitAt x + 3) 0) 0 v) (part (given o p o′) (p + (lastUnitAt x - 11)))
+    → given (given o p o′) (p + (lastUnitAt x - 11)) ys ≡ over (termBytes x n) out
+unfolding termBytes
+term-over x out n {p} h ev ep e e′ f =
+    let head : List ℕ = fieldBytes (field 5 []) in
+    let lead : List ℕ = take (lastUnitAt x - 11) (drop 11 x) in
+    let k : length (head ++ lead) ≡ p + (lastUnitAt x - 11) = omega (arith, length-append head lead, range-sizes x n h) in
+    back-over (head ++ lead) (numeralBytes (getD x (lastUnitAt x + 3) 0) 0 (termValue x n)) out (back-over head lead out e (sym ep) e′) k (rw ev at f)
 
 -- no term is above both ends
 pub term-below : (x : List ℕ) (n : ℕ) → isRange x ≡ true → n ≤ moreTerms x → n * num4 x 7 ≤ num4 x 3 - num4 x (length x - 4)
@@ -162,19 +169,122 @@ term-below x n h k =
     let q : n ≤ d / num4 x 7 = rw h at k in
     omega (arith, mul-le-mul-right (num4 x 7) q, div-mul-le-self d (num4 x 7))
 
--- an argument's bytes: a range's term has 8 bytes less than the range, upper end and increment; any other element is its own argument
-pub argument-term : (x : List ℕ) (n : ℕ) → isRange x ≡ true → argumentBytes x n ≡ termBytes x n
-unfolding argumentBytes
-argument-term x n h = rw h
+-- ---- arguments, by what a test of the element says
 
-pub argument-whole : (x : List ℕ) (n : ℕ) → isRange x ≡ false → argumentBytes x n ≡ x
-unfolding argumentBytes
-argument-whole x n h = rw h
+module _ (x : List ℕ) (n : ℕ) {r : Bool} (e : r ≡ isRange x) where
+  -- a range's argument is its term
+  pub argument-term : r ≡ true → argumentBytes x n ≡ termBytes x n
+  unfolding argumentBytes
+  argument-term h = rw (← e, h)
 
-pub argument-range : (x : List ℕ) (n : ℕ) → isRange x ≡ true → length (argumentBytes x n) ≡ length x - 8
-argument-range x n h = rw (argument-term x n h) (term-long x n h)
+  -- any other element is its own argument
+  pub argument-whole : r ≡ false → argumentBytes x n ≡ x
+  unfolding argumentBytes
+  argument-whole h = rw (← e, h)
+
+  pub argument-range : r ≡ true → length x - 8 ≡ length (argumentBytes x n)
+  argument-range h = rw (argument-term h) (sym (range-sizes x n (sym e ∙ h) .term))
 
 -- no argument is longer than its element
 pub argument-short : (x : List ℕ) (n : ℕ) → length (argumentBytes x n) ≤ length x
 argument-short x n =
-    byBool (isRange x) (λ h. omega (arith, argument-range x n h)) (λ h. rw (argument-whole x n h) (le-refl (length x)))
+    byBool (isRange x) (λ h. omega (arith, argument-range x n refl h)) (λ h. rw (argument-whole x n refl h) (le-refl (length x)))
+
+-- ---- the n-th argument: in the element that stands there if that has more than n terms, and else behind it, n less by the element's terms
+
+nth-here : (e : Element) (es : List Element) (n : ℕ) → n < terms e → argumentAt e es n ≡ termAt e n
+nth-here e [] n h = refl
+nth-here e (e′ ∷ es) n h = rw (lt-ltb n (terms e) h, argumentAt)
+
+nth-later : (e e′ : Element) (es : List Element) (n : ℕ) → terms e ≤ n → argumentAt e (e′ ∷ es) n ≡ argumentAt e′ es (n - terms e)
+nth-later e e′ es n h = rw (le-ltb n (terms e) h, argumentAt)
+
+-- ---- what stands behind an element
+
+not-unit : (t : ℕ) → between singleTag stringTag t ≡ false → isUnit t ≡ false
+not-unit t h =
+    byBool (isUnit t)
+    (λ y.
+    let low : 7 ≤ t = leb-true 7 t (and-l (leb 7 t) (leb t 11) y) in
+    let high : leb t 11 ≡ true = and-r (leb 7 t) (leb t 11) y in
+    absurd (false≢true (sym h ∙ rw (le-leb 5 t (omega arith), high))))
+    (λ y. y)
+
+no-unit-behind : (es : List Element) (rest : List ℕ) → between singleTag stringTag (tagOf rest) ≡ false → isUnit (tagOf (bytesOf (many elementFields es) ++ rest)) ≡ false
+no-unit-behind [] rest h = not-unit (tagOf rest) h
+no-unit-behind (single l u ∷ es) rest h = refl
+no-unit-behind (range l r lo up inc ∷ es) rest h = refl
+
+-- ---- one element of the value
+
+module _ (rec : List ℕ) (at : ℕ) {end : ℕ} (t : ElementTo rec at end) where
+  -- the element's bytes, and what stands behind it
+  record Cut (e : Element) (es : List Element) (rest : List ℕ) : Type 0 where
+    bytes : bytesIn rec at end ≡ bytesOf (elementFields e)
+    behind : drop end rec ≡ bytesOf (many elementFields es) ++ rest
+
+  cut-off : (e : Element) (es : List Element) (rest : List ℕ) → drop at rec ≡ bytesOf (many elementFields (e ∷ es)) ++ rest
+      → between singleTag stringTag (tagOf rest) ≡ false → Cut e es rest
+  cut-off e es rest h s =
+      let x : List ℕ = bytesOf (elementFields e) in
+      let y : List ℕ = bytesOf (many elementFields es) in
+      let g : drop at rec ≡ x ++ (y ++ rest) = h ∙ bytes-cons elementFields e es rest in
+      let q : end ≡ at + length x = t .is e (y ++ rest) g (no-unit-behind es rest s) in
+      let n : length x ≡ end - at = omega arith in
+      record {
+        bytes = ap (take (end - at)) g ∙ take-at x (y ++ rest) (end - at) n;
+        behind = ap (λ (k : ℕ). drop k rec) q ∙ drop-behind rec at x (y ++ rest) g;
+      }
+
+  nth-found : {more n : ℕ} → more ≡ moreTerms (bytesIn rec at end) → n ≤ more → IsArgument rec at n (record { start = at; end = end; term = n })
+  nth-found {more} {n} em h =
+      record {
+        from = omega arith;
+        order = t .from;
+        inside = t .whole .inside;
+        term = omega arith;
+        is = λ b m e es rest g w k s.
+            let c : Cut e es rest = cut-off e es rest g s in
+            let we : wfElement b m e ≡ true = and-l (wfElement b m e) (all (wfElement b m) es) w in
+            let z : moreTerms (bytesIn rec at end) + 1 ≡ terms e = ap (λ (x : List ℕ). moreTerms x + 1) (c .bytes) ∙ terms-are b m e we in
+            ap (λ (x : List ℕ). argumentBytes x n) (c .bytes) ∙ term-is b m e n we
+            ∙ ap (λ (a : Element). bytesOf (elementFields a)) (sym (nth-here e es n (omega arith)));
+      }
+
+  later-is : {more n : ℕ} {a : Argument} → more ≡ moreTerms (bytesIn rec at end) → more < n → IsArgument rec end (n - more - 1) a
+      → (b : Base) (m : ℕ) (e : Element) (es : List Element) (rest : List ℕ) → drop at rec ≡ bytesOf (many elementFields (e ∷ es)) ++ rest
+      → all (wfElement b m) (e ∷ es) ≡ true → n < sum (map terms (e ∷ es)) → between singleTag stringTag (tagOf rest) ≡ false
+      → argumentBytes (bytesIn rec (a .start) (a .end)) (a .term) ≡ bytesOf (elementFields (argumentAt e es n))
+  later-is {more} {n} em h p b m e [] rest g w k s =
+      let c : Cut e [] rest = cut-off e [] rest g s in
+      let z : moreTerms (bytesIn rec at end) + 1 ≡ terms e = ap (λ (x : List ℕ). moreTerms x + 1) (c .bytes) ∙ terms-are b m e (and-l (wfElement b m e) true w) in
+      absurd (omega arith)
+  later-is {more} {n} em h p b m e (e′ ∷ es) rest g w k s =
+      let c : Cut e (e′ ∷ es) rest = cut-off e (e′ ∷ es) rest g s in
+      let we : wfElement b m e ≡ true = and-l (wfElement b m e) (all (wfElement b m) (e′ ∷ es)) w in
+      let z : moreTerms (bytesIn rec at end) + 1 ≡ terms e = ap (λ (x : List ℕ). moreTerms x + 1) (c .bytes) ∙ terms-are b m e we in
+      let q : n - more - 1 ≡ n - terms e = omega arith in
+      p .is b m e′ es rest (c .behind) (and-r (wfElement b m e) (all (wfElement b m) (e′ ∷ es)) w) (omega arith) s
+      ∙ ap (λ (j : ℕ). bytesOf (elementFields (argumentAt e′ es j))) q
+      ∙ ap (λ (x : Element). bytesOf (elementFields x)) (sym (nth-later e e′ es n (omega arith)))
+
+  nth-later-on : {more n : ℕ} {a : Argument} → more ≡ moreTerms (bytesIn rec at end) → more < n → IsArgument rec end (n - more - 1) a → IsArgument rec at n a
+  nth-later-on em h p =
+      record { from = omega (arith, t .from, p .from); order = p .order; inside = p .inside; term = p .term; is = later-is em h p }
+
+-- ---- the loop: the argument that is found from here is the one from the start
+
+pub record Finding (rec : List ℕ) (at n start term : ℕ) : Type 0 where
+  pub whole : Whole rec start
+  pub from : at ≤ start
+  pub same : (a : Argument) → IsArgument rec start term a → IsArgument rec at n a
+
+pub finding-none : {rec : List ℕ} {at : ℕ} (n : ℕ) → Whole rec at → Finding rec at n at n
+finding-none n w = record { whole = w; from = omega arith; same = λ a p. p }
+
+module _ {rec : List ℕ} {at n start term end more : ℕ} (f : Finding rec at n start term) (t : ElementTo rec start end) (e : more ≡ moreTerms (bytesIn rec start end)) where
+  pub finding-here : term ≤ more → IsArgument rec at n (record { start = start; end = end; term = term })
+  finding-here h = f .same _ (nth-found rec start t e h)
+
+  pub finding-on : more < term → Finding rec at n end (term - more - 1)
+  finding-on h = record { whole = t .whole; from = omega (arith, f .from, t .from); same = λ a p. f .same a (nth-later-on rec start t e h p) }

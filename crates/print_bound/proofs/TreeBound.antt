@@ -2,7 +2,7 @@
 -- for one separator by it.
 use Prim.Native.Nat.{ℕ, zero, suc, _+_, _/_, _^_, _≤_, _<_}
 use mathlib.Core.Path.{_≡_, refl, subst}
-use mathlib.Core.Bool.{Bool, true, false, _&&_, not, false≢true}
+use mathlib.Core.Bool.{Bool, true, false, false≢true}
 use mathlib.Core.List.{List, [], _∷_, _++_, map, append-assoc, append-nil}
 use native.Mathlib.Nat.{div-le-self}
 use native.Mathlib.Omega.{arith}
@@ -14,21 +14,25 @@ use Rattle.laws.specs.Lists.{all, isNil}
 use Rattle.rules.specs.Refusals.{mostValue}
 use Rattle.rules.specs.Characters.{byte}
 use Rattle.rules.specs.Tokens.{Sep, dash, comma, colon, equals, semi, Lex, word, sep}
-use Rattle.rules.specs.Units.{Radix, rD, rH, rO, rB, Base, plain, keys, letter, radixLetter, size, sameBase, allowed, Unit, num, keyed, identifier, symbolic, text}
+use Rattle.rules.specs.Units.{Radix, rD, rH, rO, rB, Base, plain, keys, letter, radixLetter, size, sameBase, Unit, num, keyed, identifier, symbolic, text}
 use Rattle.rules.specs.Commands.{Element, single, range, Place, place, Block, block, Command, command, leading, lastUnit}
 use Rattle.rules.specs.WellFormed.{okFraction, wfUnit, wfElement, wfValue, wfPlace, wfBlock, wellFormed}
 use Rattle.rules.specs.Records.{Field, field, codeTag, nameTag, num4, fourBytes, unitField, elementFields, many, placeFields, blockFields, fieldsOf}
-use Rattle.rules.specs.Printing.{digits, digitsOf, mostDigits, numText, doubled, incLinks, tailLinks, fullLinks, laterLinks, restLinks, sameUnits, isShort, valueLex, moreLex, joinedLex, wordLex, nameLex, placeLex, blockLex, sepText, print}
+use Rattle.rules.specs.Printing.{digits, digitsOf, mostDigits, numText, doubled, incLinks, tailLinks, fullLinks, laterLinks, restLinks, isShort, valueLex, moreLex, joinedLex, wordLex, nameLex, placeLex, blockLex, sepText, print}
 use Rattle.rules.proofs.CommandBack.{c-blocks}
 use Rattle.rules.proofs.DecodeEncode.{place-value}
-use Rattle.rules.proofs.DirectIsList.{places-fine}
+use Rattle.rules.proofs.Names.{block-places}
 use Rattle.rules.proofs.NeverLonger.{rl, rl-append, rl-cons, joined-len}
 use Rattle.rules.proofs.RoundTrip.{digits-length, num-length}
+use Rattle.rules.proofs.TextBound.{pieceFields, doubled-most}
 use Rattle.rules.proofs.UnitBack.{of-length}
 use Rattle.rules.proofs.UnitLength.{lx, prefixed-length}
 use Rattle.rules.proofs.ValueBack.{v-all, ok-lead, ok-last, ok-range}
 use Rattle.rules.proofs.ValueLength.{wLead, wL, wL-append, lead-pos, full-links, printed}
 use Rattle.print_bound.specs.Bounds.{longerBound, decimalBound, stopBound, anyBound, isPlain, numberBound, endBound, fieldBound, baseBehind, fieldsBound}
+
+-- the parts of a conjunction
+ruleset parts = (and-l, and-r)
 
 -- ---- numbers
 
@@ -94,21 +98,10 @@ end-bound b r v h =
 
 -- ---- a unit
 
-doubled-most : (w : List ℕ) → length (doubled w) ≤ length w + length w
-doubled-most [] = omega arith
-doubled-most (c ∷ cs) =
-    byBool (eqb c (byte "\""))
-    (λ y. rw (y, doubled) (omega (arith, doubled-most cs)))
-    (λ y. rw (y, doubled) (omega (arith, doubled-most cs)))
-
-number-back : (a c v : ℕ) → num4 (a ∷ c ∷ fourBytes v) 2 ≡ v
-number-back a c v = omega arith
-
 unit-bound : (b : Base) (u : Unit) → wfUnit b u ≡ true → suc (lx b u) ≤ fieldBound (letter b) (unitField u)
 unit-bound b (num r f v) h =
-    let a : Bool = allowed b (plain r) in
-    let o : okFraction r f ≡ true = and-r a (okFraction r f) (and-l (a && okFraction r f) (leb v mostValue) h) in
-    rw (number-back (radixLetter r) f v) (number-bound b r f v o (and-r (a && okFraction r f) (leb v mostValue) h))
+    let value : num4 (radixLetter r ∷ f ∷ fourBytes v) 2 ≡ v = omega arith in
+    rw value (number-bound b r f v (search parts) (search parts))
 unit-bound b (keyed w) h = omega (arith, prefixed-length (sameBase b keys) (letter keys) w)
 unit-bound b (identifier w) h = omega arith
 unit-bound b (symbolic w) h = omega arith
@@ -135,8 +128,8 @@ module _ (b : Base) where
       omega (
         arith,
         unit-step (letter b) i (map unitField (l ++ (u ∷ [])) ++ fs),
-        unit-bound b i (and-l (wfUnit b i) (all (wfUnit b) l) h),
-        argument-bound l u fs n (and-r (wfUnit b i) (all (wfUnit b) l) h) k m,
+        unit-bound b i (search parts),
+        argument-bound l u fs n (search parts) k m,
       )
 
   inc-bound : (r : Radix) (inc : ℕ) (t : Bool) → leb inc mostValue ≡ true → wL b (incLinks r inc t) ≤ endBound inc
@@ -153,27 +146,19 @@ module _ (b : Base) where
   whole e = 1 + wLead b (leading e) + lx b (lastUnit e) + wL b (tailLinks e)
 
   -- its own field pays for the upper end and the increment
-  upper-back : (up inc : ℕ) → num4 (fourBytes up ++ fourBytes inc) 0 ≡ up
-  upper-back up inc = omega arith
-
-  increment-back : (up inc : ℕ) → num4 (fourBytes up ++ fourBytes inc) 4 ≡ inc
-  increment-back up inc = omega arith
-
   element-bound : (k : ℕ) (e : Element) (fs : List Field) (n : ℕ) → wfElement b k e ≡ true → n ≤ paid fs → whole e + n ≤ paid (elementFields e ++ fs)
   element-bound k (single l u) fs n h m =
       let e : Element = single l u in
       omega (arith, argument-bound l u fs n (ok-lead b k e h) (ok-last b k e h) m)
   element-bound k (range l r lo up inc) fs n h m =
       let e : Element = range l r lo up inc in
-      let wu : Bool = wfUnit b (num r 0 up) in
-      let wi : Bool = wfUnit b (num r 0 inc) in
-      let two : wu && wi ≡ true = and-l (wu && wi) (leb lo up) (and-l (wu && wi && leb lo up) (leb 1 inc) (ok-range b k e h)) in
-      let hu : leb up mostValue ≡ true = and-r (allowed b (plain r) && true) (leb up mostValue) (and-l wu wi two) in
-      let hi : leb inc mostValue ≡ true = and-r (allowed b (plain r) && true) (leb inc mostValue) (and-r wu wi two) in
-      rw (upper-back up inc, increment-back up inc) (omega (
+      let ends = ok-range b k e h in
+      let upper : num4 (fourBytes up ++ fourBytes inc) 0 ≡ up = omega arith in
+      let increment : num4 (fourBytes up ++ fourBytes inc) 4 ≡ inc = omega arith in
+      rw (upper, increment) (omega (
         arith,
         argument-bound l (num r 0 lo) fs n (ok-lead b k e h) (ok-last b k e h) m,
-        tail-bound r lo up inc l hu hi,
+        tail-bound r lo up inc l (search parts) (search parts),
       ))
 
   -- the short form has one separator byte more, and leaves out a leading unit at least
@@ -181,80 +166,50 @@ module _ (b : Base) where
   later-bound true e s = omega (arith, lead-pos b (leading e) (s refl))
   later-bound false e s = omega (arith, full-links b e)
 
-  short-leads : (e₀ e : Element) → isShort e₀ e ≡ true → isNil (leading e) ≡ false
-  short-leads e₀ e h = not-true (isNil (leading e)) (and-l (not (isNil (leading e))) (sameUnits (leading e₀) (leading e)) h)
-
-  rest-bound : (k : ℕ) (e₀ : Element) (es : List Element) (fs : List Field) (n : ℕ) → all (wfElement b k) es ≡ true → n ≤ paid fs
-      → wL b (restLinks e₀ es) + n ≤ paid (many elementFields es ++ fs)
-  rest-bound k e₀ [] fs n h m = omega arith
-  rest-bound k e₀ (e ∷ es) fs n h m =
-      let behind : List Field = many elementFields es ++ fs in
-      rw (append-assoc (elementFields e) (many elementFields es) fs) (omega (
+  -- the first in full, the others as they are written behind it
+  elements-bound : (k : ℕ) (e : Element) (es : List Element) (fs : List Field) (n : ℕ) → all (wfElement b k) (e ∷ es) ≡ true → n ≤ paid fs
+      → whole e + wL b (restLinks e es) + n ≤ paid (many elementFields (e ∷ es) ++ fs)
+  elements-bound k e [] fs n h m = rw (append-nil (elementFields e)) (omega (arith, element-bound k e fs n (search parts) m))
+  elements-bound k e (e′ ∷ es) fs n h m =
+      let later : wL b (restLinks e (e′ ∷ es)) + n ≤ paid (many elementFields (e′ ∷ es) ++ fs) =
+      omega (
         arith,
-        wL-append b (laterLinks (isShort e₀ e) e) (restLinks e es),
-        later-bound (isShort e₀ e) e (short-leads e₀ e),
-        element-bound k e behind (wL b (restLinks e es) + n) (and-l (wfElement b k e) (all (wfElement b k) es) h)
-            (rest-bound k e es fs n (and-r (wfElement b k e) (all (wfElement b k) es) h) m),
+        wL-append b (laterLinks (isShort e e′) e′) (restLinks e′ es),
+        later-bound (isShort e e′) e′ (λ h. not-true (isNil (leading e′)) (search parts)),
+        elements-bound k e′ es fs n (search parts) m,
+      ) in
+      rw (append-assoc (elementFields e) (many elementFields (e′ ∷ es)) fs) (omega (
+        arith,
+        element-bound k e (many elementFields (e′ ∷ es) ++ fs) (wL b (restLinks e (e′ ∷ es)) + n) (search parts) later,
       ))
 
   value-bound : (v : List Element) (fs : List Field) (n : ℕ) → wfValue b v ≡ true → n ≤ paid fs → rl (valueLex b v) + n ≤ paid (many elementFields v ++ fs)
   value-bound [] fs n h m = omega arith
   value-bound (e ∷ es) fs n h m =
-      let k : ℕ = length (leading e) in
-      let hs : all (wfElement b k) (e ∷ es) ≡ true = v-all b e es h in
-      let behind : List Field = many elementFields es ++ fs in
-      rw (append-assoc (elementFields e) (many elementFields es) fs) (omega (
+      omega (
         arith,
         printed b (e ∷ es),
         wL-append b (fullLinks e) (restLinks e es),
         full-links b e,
-        element-bound k e behind (wL b (restLinks e es) + n) (and-l (wfElement b k e) (all (wfElement b k) es) hs)
-            (rest-bound k e es fs n (and-r (wfElement b k e) (all (wfElement b k) es) hs) m),
-      ))
+        elements-bound (length (leading e)) e es fs n (v-all b e es h) m,
+      )
 
--- ---- pieces of a code or a name, joined by `-`
+-- ---- pieces of a code or a name, joined by `-`: each pays for itself and one byte by it, whatever the tag, where it is a word's
 
-abbrev pieceFields : ℕ → List (List ℕ) → List Field
-pieceFields t ws = map (λ w. field t w) ws
-
--- each piece and one byte by it, whatever the tag, where it is a word's
 module _ (t base : ℕ) (pays : (w : List ℕ) → fieldBound base (field t w) ≡ 3 + length w) (keeps : (w : List ℕ) → baseBehind base (field t w) ≡ base) where
   piece-step : (w : List ℕ) (fs : List Field) → fieldsBound base (field t w ∷ fs) ≡ 3 + length w + fieldsBound base fs
   piece-step w fs = rw (pays w, keeps w)
 
-  more-bound : (ws : List (List ℕ)) (fs : List Field) (n : ℕ) → n ≤ fieldsBound base fs
-      → rl (moreLex dash (map wordLex ws)) + n ≤ fieldsBound base (pieceFields t ws ++ fs)
-  more-bound [] fs n m = omega arith
-  more-bound (w ∷ ws) fs n m =
-      omega (
-        arith,
-        rl-cons (word w) (moreLex dash (map wordLex ws)),
-        piece-step w (pieceFields t ws ++ fs),
-        more-bound ws fs n m,
-      )
-
-  pieces-bound : (ws : List (List ℕ)) (fs : List Field) (n : ℕ) → n ≤ fieldsBound base fs
-      → rl (joinedLex dash (map wordLex ws)) + n ≤ fieldsBound base (pieceFields t ws ++ fs)
-  pieces-bound [] fs n m = omega arith
-  pieces-bound (w ∷ ws) fs n m =
-      omega (
-        arith,
-        rl-cons (word w) (moreLex dash (map wordLex ws)),
-        piece-step w (pieceFields t ws ++ fs),
-        more-bound ws fs n m,
-      )
+  pieces-bound : (w : List ℕ) (ws : List (List ℕ)) (fs : List Field) (n : ℕ) → n ≤ fieldsBound base fs
+      → suc (rl (joinedLex dash (map wordLex (w ∷ ws)))) + n ≤ fieldsBound base (pieceFields t (w ∷ ws) ++ fs)
+  pieces-bound w [] fs n m = omega (arith, rl-cons (word w) [], piece-step w fs)
+  pieces-bound w (v ∷ vs) fs n m =
+      omega (arith, rl-cons (word w) (moreLex dash (map wordLex (v ∷ vs))), piece-step w (pieceFields t (v ∷ vs) ++ fs), pieces-bound v vs fs n m)
 
   -- with the `=` behind the name
   name-bound : (ws : List (List ℕ)) (fs : List Field) (n : ℕ) → n ≤ fieldsBound base fs → rl (nameLex ws) + n ≤ fieldsBound base (pieceFields t ws ++ fs)
   name-bound [] fs n m = omega arith
-  name-bound (w ∷ ws) fs n m =
-      omega (
-        arith,
-        rl-append (joinedLex dash (map wordLex (w ∷ ws))) (sep equals ∷ []),
-        rl-cons (word w) (moreLex dash (map wordLex ws)),
-        piece-step w (pieceFields t ws ++ fs),
-        more-bound ws fs n m,
-      )
+  name-bound (w ∷ ws) fs n m = omega (arith, rl-append (joinedLex dash (map wordLex (w ∷ ws))) (sep equals ∷ []), pieces-bound w ws fs n m)
 
 -- ---- places, blocks, the command: whatever base letter stood before
 
@@ -272,7 +227,7 @@ module _ {A : Type 0} (lex : A → List Lex) (fields : A → List Field) (good :
         one,
         rl-cons (sep s) (lex a ++ M),
         rl-append (lex a) M,
-        bound a (many fields as′ ++ fs) (rl M + n) (and-l (good a) (all good as′) h) (joined-bound as′ fs n (and-r (good a) (all good as′) h) m) base,
+        bound a (many fields as′ ++ fs) (rl M + n) (search parts) (joined-bound as′ fs n (search parts) m) base,
       ))
 
 place-bound : (k : Bool) (p : Place) (fs : List Field) (n : ℕ) → wfPlace k p ≡ true → Pays n fs → Pays (suc (rl (placeLex p)) + n) (placeFields p ++ fs)
@@ -289,18 +244,19 @@ block-bound (block k ps) fs n h m base =
     omega (
       arith,
       joined-len (map placeLex ps),
-      joined-bound placeLex placeFields (wfPlace k) (place-bound k) comma refl ps fs n (places-fine k ps h) m base,
+      joined-bound placeLex placeFields (wfPlace k) (place-bound k) comma refl ps fs n (block-places k ps h) m base,
     )
 
 pub text-bound : (c : Command) → wellFormed c ≡ true → length (print c) ≤ 1 + fieldsBound 0 (fieldsOf c)
-text-bound (command c bs) h =
-    let N : List Lex = joinedLex dash (map wordLex c) in
+text-bound (command [] bs) h = absurd (false≢true h)
+text-bound (command (w ∷ ws) bs) h =
+    let N : List Lex = joinedLex dash (map wordLex (w ∷ ws)) in
     let M : List Lex = moreLex colon (map blockLex bs) in
     let B : List Field = many blockFields bs in
-    let blocks : rl M + 0 ≤ fieldsBound 0 (B ++ []) = joined-bound blockLex blockFields wfBlock block-bound colon refl bs [] 0 (c-blocks c bs h) (λ base. omega arith) 0 in
+    let blocks : rl M + 0 ≤ fieldsBound 0 (B ++ []) = joined-bound blockLex blockFields wfBlock block-bound colon refl bs [] 0 (c-blocks (w ∷ ws) bs h) (λ base. omega arith) 0 in
     omega (
       arith,
       rl-append (N ++ M) (sep semi ∷ []),
       rl-append N M,
-      pieces-bound codeTag 0 (λ w. refl) (λ w. refl) c B (rl M) (subst (λ (l : List Field). rl M ≤ fieldsBound 0 l) (append-nil B) (omega (arith, blocks))),
+      pieces-bound codeTag 0 (λ w. refl) (λ w. refl) w ws B (rl M) (subst (λ (l : List Field). rl M ≤ fieldsBound 0 l) (append-nil B) (omega (arith, blocks))),
     )

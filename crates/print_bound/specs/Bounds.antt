@@ -8,8 +8,16 @@ use lib.Dec.{ltb, eqb}
 use lib.ListN.{length, getD, drop}
 use Rattle.laws.specs.Cases.{pick}
 use Rattle.rules.specs.Characters.{byte}
+use Rattle.rules.specs.Refusals.{ok}
+use Rattle.rules.specs.Commands.{Command}
+use Rattle.rules.specs.Printing.{print}
+use Rattle.rules.specs.WellFormed.{recordOf}
 use Rattle.rules.specs.Records.{Field, field, placeTag, singleTag, rangeTag, numeralTag, stringTag, num4, fieldBytes}
 use Rattle.record_walk.specs.Fields.{lengthAt}
+
+-- at most n bytes has the text of the command whose record the bytes are
+abbrev pub TextWithin : List ℕ → ℕ → Type 0
+TextWithin rec n = (c : Command) → recordOf rec ≡ ok c → length (print c) ≤ n
 
 -- ---- numbers
 

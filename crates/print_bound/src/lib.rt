@@ -14,8 +14,7 @@ ghost use Prim.Native.Nat.{_+_, _≤_};
 ghost use lib.ListN.{length};
 ghost use Rattle.rules.specs.WellFormed.{wellFormedBytes};
 ghost use Rattle.record_walk.specs.Fields.{lengthAt};
-ghost use Rattle.print_bound.specs.Texts.{textOf};
-ghost use Rattle.print_bound.specs.Bounds.{longerBound, stopBound, anyBound, isPlain, numberBound, endBound, otherAt, Stands};
+ghost use Rattle.print_bound.specs.Bounds.{TextWithin, longerBound, stopBound, anyBound, isPlain, numberBound, endBound, otherAt, Stands};
 
 // The values below this have one decimal digit.
 const TEN: u32 = 10;
@@ -132,7 +131,7 @@ fn other_bound(rec: &[u8], at: usize) -> usize
 // At most so many bytes the text of the record has.
 pub fn bound(rec: &[u8]) -> usize
     requires { ⌜ wellFormedBytes (now rec) ≡ true ⌝ }
-    ensures { λ r. ⌜ length (textOf (now (rec .entry))) ≤ r ⌝ }
+    ensures { λ r. ⌜ TextWithin (now (rec .entry)) r ⌝ }
 {
     let mut at: usize = 0;
     let mut sum: usize = SEPARATOR;

@@ -1,35 +1,41 @@
 -- The places that are done and those that are left make the text of the record, block by block.
-use Prim.Native.Nat.{_+_, _<_, _≤_, ℕ}
-use lib.Dec.{leb}
+use Prim.Native.Nat.{_+_, _-_, _<_, _≤_, ℕ}
 use lib.ListN.{drop, length, length-append, length-drop}
-use mathlib.Core.Bool.{Bool, _&&_, false, false≢true, true}
+use mathlib.Core.Bool.{Bool, false, false≢true, true}
 use mathlib.Core.List.{List, [], _++_, _∷_, append-assoc, map}
 use mathlib.Core.Option.{Option, none, some}
 use mathlib.Core.Path.{_∙_, _≡_, ap, refl, sym}
 use native.Mathlib.Omega.{arith}
 use Rattle.laws.specs.Cases.{and-l, and-r}
 use Rattle.laws.specs.Lists.{all}
-use Rattle.laws.specs.Over.{over}
+use Rattle.laws.specs.Over.{back, back-over, length-over, over, part}
 use Rattle.rules.proofs.CommandBack.{c-blocks, c-code}
-use Rattle.rules.proofs.EncodeDecode.{IsRecord, record-is}
+use Rattle.rules.proofs.EncodeDecode.{record-is}
 use Rattle.rules.proofs.FieldLaws.{bytes-append, bytes-cons}
 use Rattle.rules.proofs.Names.{block-places}
 use Rattle.rules.proofs.RecordBound.{record-bound}
 use Rattle.rules.proofs.TextBound.{text-bound}
 use Rattle.rules.specs.Characters.{byte}
 use Rattle.rules.specs.Commands.{Block, Command, Place, block, command, place}
-use Rattle.rules.specs.Printing.{blockLex, joinedLex, moreLex, placeLex, render, wordLex}
-use Rattle.rules.specs.Records.{Field, blockFields, bytesOf, codeTag, encode, many, nameTag, placeFields}
+use Rattle.rules.specs.Printing.{blockLex, joinedLex, moreLex, placeLex, print, render, wordLex}
+use Rattle.rules.specs.Records.{Field, blockFields, bytesOf, codeTag, many, nameTag, placeFields}
 use Rattle.rules.specs.Refusals.{Res, bad, moreOfCode, ok}
 use Rattle.rules.specs.Tokens.{Lex, colon, comma, dash, semi, sep}
 use Rattle.rules.specs.Units.{isIdentifier}
-use Rattle.rules.specs.WellFormed.{isOk, recordOf, short, wellFormed, wellFormedBytes, wfBlock, wfPieces, wfPlace}
+use Rattle.rules.specs.WellFormed.{isOk, recordOf, wellFormedBytes, wfBlock, wfPlace}
 use Rattle.print_value.proofs.ElementLaws.{render-append}
+use Rattle.print_value.proofs.UnitsLaws.{again, written-all}
+use Rattle.print_value.specs.Values.{mostLength}
+use Rattle.print_value.specs.declared.Put.{Put}
 use Rattle.record_walk.proofs.RunLaws.{drop-behind, stands-inside}
 use Rattle.record_walk.specs.Fronts.{tagOf}
 use Rattle.print_text.proofs.PieceLaws.{pieceBytes}
-use Rattle.print_text.specs.Places.{IsPieces, IsPlace, opening, pieceFields, piecesText, placeText}
-use Rattle.print_text.specs.Texts.{printed, textOf}
+use Rattle.print_text.proofs.PlaceLaws.{pieces-short}
+use Rattle.print_text.specs.Places.{IsPieces, IsPlace, Lays, PiecesFit, PiecesLen, PlaceFits, PlaceLen, PutPieces, PutPlace, opening, pieceFields, piecesText, placeText}
+use Rattle.print_text.specs.Texts.{textOf}
+
+-- the parts of a conjunction
+ruleset parts = (and-l, and-r)
 
 -- ---- what is left of a command
 
@@ -46,9 +52,11 @@ placesBytes ps = bytesOf (many placeFields ps)
 abbrev pub blocksBytes : List Block → List ℕ
 blocksBytes bs = bytesOf (many blockFields bs)
 
-places-step : (p : Place) (ps : List Place) → placesText (p ∷ ps) ≡ placeText none p ++ placesText ps
+places-step : (p : Place) (ps : List Place) (bs : List Block) → placesText (p ∷ ps) ++ blocksText bs ≡ placeText none p ++ (placesText ps ++ blocksText bs)
 unfolding placeText
-places-step p ps = ap (λ (x : List ℕ). byte "," ∷ x) (render-append (placeLex p) (moreLex comma (map placeLex ps)))
+places-step p ps bs =
+    ap (λ (x : List ℕ). byte "," ∷ (x ++ blocksText bs)) (render-append (placeLex p) (moreLex comma (map placeLex ps)))
+    ∙ append-assoc (byte "," ∷ render (placeLex p)) (placesText ps) (blocksText bs)
 
 blocks-step : (k : Bool) (p : Place) (ps : List Place) (bs : List Block) → blocksText (block k (p ∷ ps) ∷ bs) ≡ placeText (some k) p ++ (placesText ps ++ blocksText bs)
 unfolding placeText
@@ -70,25 +78,23 @@ pub record Placing (rec : List ℕ) (at : ℕ) (done : List ℕ) : Type 0 where
   pub blocks : all wfBlock bs ≡ true
   pub inside : at ≤ length rec
 
-low-block : (bs : List Block) → tagOf (blocksBytes bs) < nameTag
-low-block [] = omega arith
-low-block (block k ps ∷ bs) = omega arith
+low-block : (bs : List Block) → (tagOf (blocksBytes bs) < nameTag) × (tagOf (blocksBytes bs) ≡ codeTag → ⊥)
+low-block [] = (omega arith, λ e. omega arith)
+low-block (block k ps ∷ bs) = (omega arith, λ e. omega arith)
 
 low-place : (ps : List Place) (bs : List Block) → tagOf (placesBytes ps ++ blocksBytes bs) < nameTag
-low-place [] bs = low-block bs
+low-place [] bs = low-block bs .0
 low-place (place b nm v ∷ ps) bs = omega arith
 
 -- ---- the next place
 
-pub record NextPlace (rec : List ℕ) (at : ℕ) (done : List ℕ) : Type 0 where
-  pub o : Option Bool
-  pub named : Bool
-  pub p : Place
-  pub rest : List ℕ
-  pub has : IsPlace rec at o named p rest
-  pub room : length done + length (placeText o p) ≤ length (textOf rec)
-  pub on : at < at + length (bytesOf (opening o ++ placeFields p))
-  pub more : Placing rec (at + length (bytesOf (opening o ++ placeFields p))) (done ++ placeText o p)
+record NextPlace (rec : List ℕ) (at : ℕ) (done : List ℕ) : Type 0 where
+  o : Option Bool
+  named : Bool
+  p : Place
+  rest : List ℕ
+  has : IsPlace rec at o named p rest
+  more : Placing rec (at + length (bytesOf (opening o ++ placeFields p))) (done ++ placeText o p)
 
 some-bytes : (o : Option Bool) (p : Place) → 1 ≤ length (bytesOf (opening o ++ placeFields p))
 some-bytes none (place b nm v) = omega arith
@@ -107,16 +113,14 @@ go-on {rec} {at} {done} o named p ps bs t e g h k =
       named = named;
       p = p;
       rest = R;
-      has = record { is = e; good = and-l (wfPlace named p) (all (wfPlace named) ps) g; ends = low-place ps bs; inside = k };
-      room = omega (arith, ap length t, length-append done (T ++ M), length-append T M);
-      on = omega (arith, some-bytes o p);
+      has = record { is = e; good = search parts; ends = low-place ps bs; inside = k };
       more = record {
         named = named;
         ps = ps;
         bs = bs;
         total = t ∙ sym (append-assoc done T M);
         is = drop-behind rec at F R e;
-        places = and-r (wfPlace named p) (all (wfPlace named) ps) g;
+        places = search parts;
         blocks = h;
         inside = stands-inside rec at F R e k;
       };
@@ -128,24 +132,18 @@ next-place : {rec : List ℕ} {at : ℕ} {done : List ℕ} (named : Bool) (ps : 
 next-place {rec} {at} named [] [] t e g h k = absurd (omega (arith, length-drop at rec, ap length e))
 next-place named [] (block kd [] ∷ bs) t e g h k = absurd (false≢true h)
 next-place {rec} {at} {done} named [] (block kd (p ∷ ps) ∷ bs) t e g h k =
-    let w : wfBlock (block kd (p ∷ ps)) ≡ true = and-l (wfBlock (block kd (p ∷ ps))) (all wfBlock bs) h in
     let H : List Field = opening (some kd) in
     let z : blocksBytes (block kd (p ∷ ps) ∷ bs) ≡ bytesOf (H ++ placeFields p) ++ (placesBytes ps ++ blocksBytes bs) =
     bytes-append (H ++ many placeFields (p ∷ ps)) (many blockFields bs)
     ∙ ap (λ (x : List ℕ). (bytesOf H ++ x) ++ blocksBytes bs) (bytes-append (placeFields p) (many placeFields ps))
     ∙ ap (λ (x : List ℕ). bytesOf H ++ x) (append-assoc (bytesOf (placeFields p)) (placesBytes ps) (blocksBytes bs)) in
     go-on (some kd) kd p ps bs (t ∙ ap (λ (x : List ℕ). done ++ x) (blocks-step kd p ps bs)) (e ∙ z)
-    (block-places kd (p ∷ ps) w) (and-r (wfBlock (block kd (p ∷ ps))) (all wfBlock bs) h) (omega arith)
+    (block-places kd (p ∷ ps) (search parts)) (search parts) (omega arith)
 next-place {rec} {at} {done} named (p ∷ ps) bs t e g h k =
-    let y : placesText (p ∷ ps) ++ blocksText bs ≡ placeText none p ++ (placesText ps ++ blocksText bs) =
-    ap (λ (x : List ℕ). x ++ blocksText bs) (places-step p ps) ∙ append-assoc (placeText none p) (placesText ps) (blocksText bs) in
-    go-on none named p ps bs (t ∙ ap (λ (x : List ℕ). done ++ x) y) (e ∙ bytes-cons placeFields p ps (blocksBytes bs)) g h (omega arith)
+    go-on none named p ps bs (t ∙ ap (λ (x : List ℕ). done ++ x) (places-step p ps bs)) (e ∙ bytes-cons placeFields p ps (blocksBytes bs)) g h (omega arith)
 
 module _ {rec : List ℕ} {at : ℕ} {done : List ℕ} (g : Placing rec at done) where
-  pub following : at < length rec → NextPlace rec at done
-  following k = next-place (g .named) (g .ps) (g .bs) (g .total) (g .is) (g .places) (g .blocks) k
-
-  pub done-room : length done ≤ length (textOf rec)
+  done-room : length done ≤ length (textOf rec)
   done-room = omega (arith, ap length (g .total), length-append done (placesText (g .ps) ++ blocksText (g .bs)))
 
   end-of : (ps : List Place) (bs : List Block) → drop at rec ≡ placesBytes ps ++ blocksBytes bs → length rec ≤ at → placesText ps ++ blocksText bs ≡ byte ";" ∷ []
@@ -153,54 +151,44 @@ module _ {rec : List ℕ} {at : ℕ} {done : List ℕ} (g : Placing rec at done)
   end-of [] (block kd ps ∷ bs) e k = absurd (omega (arith, length-drop at rec, ap length e))
   end-of (place b nm v ∷ ps) bs e k = absurd (omega (arith, length-drop at rec, ap length e))
 
-  pub all-done : length rec ≤ at → textOf rec ≡ done ++ (byte ";" ∷ [])
+  all-done : length rec ≤ at → textOf rec ≡ done ++ (byte ";" ∷ [])
   all-done k = g .total ∙ ap (λ (x : List ℕ). done ++ x) (end-of (g .ps) (g .bs) (g .is) k)
-
-  pub all-long : length rec ≤ at → length (textOf rec) ≡ length done + 1
-  all-long k = ap length (all-done k) ∙ length-append done (byte ";" ∷ [])
 
 -- ---- the code
 
-pub record Start (rec : List ℕ) : Type 0 where
-  pub w : List ℕ
-  pub ws : List (List ℕ)
-  pub rest : List ℕ
-  pub has : IsPieces rec 0 codeTag w ws rest
-  pub room : length (piecesText w ws) ≤ length (textOf rec)
-  pub few : length (textOf rec) ≤ 458752
-  pub placing : Placing rec (0 + length (pieceBytes codeTag (w ∷ ws))) (piecesText w ws)
+record Start (rec : List ℕ) : Type 0 where
+  w : List ℕ
+  ws : List (List ℕ)
+  rest : List ℕ
+  has : IsPieces rec 0 codeTag w ws rest
+  few : length (textOf rec) ≤ 458752
+  placing : Placing rec (0 + length (pieceBytes codeTag (w ∷ ws))) (piecesText w ws)
 
--- a well-formed record has a tree
-known : (rec : List ℕ) (r : Res Command) → recordOf rec ≡ r → isOk r ≡ true → (c : Command) × (r ≡ ok c) × IsRecord rec c
-known rec (ok c) e h = (c, refl, record-is rec c e)
-known rec (bad n p) e h = absurd (false≢true h)
-
-short-pieces : (w : List ℕ) (ws : List (List ℕ)) → wfPieces isIdentifier moreOfCode (w ∷ ws) ≡ true → all short (w ∷ ws) ≡ true
-short-pieces w ws h = and-r (isIdentifier w && all isIdentifier ws && leb (length ws) moreOfCode) (all short (w ∷ ws)) h
-
-start-of : (rec : List ℕ) (c : Command) → recordOf rec ≡ ok c → wellFormed c ≡ true → encode c ≡ rec → Start rec
+start-of : (rec : List ℕ) (r : Res Command) → recordOf rec ≡ r → isOk r ≡ true → Start rec
 unfolding textOf piecesText
-start-of rec (command [] bs) r h e = absurd (false≢true h)
-start-of rec (command (w ∷ ws) bs) r h e =
+start-of rec (bad n p) r h = absurd (false≢true h)
+start-of rec (ok (command [] bs)) r h = absurd (false≢true (record-is rec (command [] bs) r .well))
+start-of rec (ok (command (w ∷ ws) bs)) r h =
     let c : Command = command (w ∷ ws) bs in
+    let i = record-is rec c r in
+    let text : textOf rec ≡ print c = rw (r, textOf) in
     let P : List ℕ = pieceBytes codeTag (w ∷ ws) in
-    let d : rec ≡ P ++ blocksBytes bs = sym e ∙ bytes-append (pieceFields codeTag (w ∷ ws)) (many blockFields bs) in
+    let d : rec ≡ P ++ blocksBytes bs = sym (i .bytes) ∙ bytes-append (pieceFields codeTag (w ∷ ws)) (many blockFields bs) in
     let J : List Lex = joinedLex dash (map wordLex (w ∷ ws)) in
     let B : List Lex = moreLex colon (map blockLex bs) in
     let t : textOf rec ≡ render J ++ blocksText bs =
-    ap printed r ∙ ap render (append-assoc J B (sep semi ∷ [])) ∙ render-append J (B ++ (sep semi ∷ [])) in
+    text ∙ ap render (append-assoc J B (sep semi ∷ [])) ∙ render-append J (B ++ (sep semi ∷ [])) in
     record {
       w = w;
       ws = ws;
       rest = blocksBytes bs;
       has = record {
         is = d;
-        good = short-pieces w ws (c-code (w ∷ ws) bs h);
-        ends = λ z. no-code bs z;
+        good = pieces-short isIdentifier moreOfCode (w ∷ ws) (c-code (w ∷ ws) bs (i .well));
+        ends = low-block bs .1;
         inside = omega arith;
       };
-      room = omega (arith, ap length t, length-append (render J) (blocksText bs));
-      few = omega (arith, ap length (ap printed r), text-bound c h, record-bound c h);
+      few = omega (arith, ap length text, text-bound c (i .well), record-bound c (i .well));
       placing = record {
         named = false;
         ps = [];
@@ -208,26 +196,123 @@ start-of rec (command (w ∷ ws) bs) r h e =
         total = t;
         is = drop-behind rec 0 P (blocksBytes bs) d;
         places = refl;
-        blocks = c-blocks (w ∷ ws) bs h;
+        blocks = c-blocks (w ∷ ws) bs (i .well);
         inside = stands-inside rec 0 P (blocksBytes bs) d (omega arith);
       };
     }
-  where
-    no-code : (bs : List Block) → tagOf (blocksBytes bs) ≡ codeTag → ⊥
-    no-code [] z = omega arith
-    no-code (block k ps ∷ bs) z = omega arith
 
-pub start-at : (rec : List ℕ) → wellFormedBytes rec ≡ true → Start rec
-start-at rec h =
-    let d = known rec (recordOf rec) refl h in
-    start-of rec (d .0) (d .1) (d .2 .well) (d .2 .bytes)
+start-at : (rec : List ℕ) → wellFormedBytes rec ≡ true → Start rec
+start-at rec h = start-of rec (recordOf rec) refl h
 
 -- ---- the loops
 
 -- measured so far
-abbrev pub Counted : List ℕ → ℕ → ℕ → Type 0
-Counted rec k at = (done : List ℕ) × Placing rec at done × (length done ≡ k)
+pub record Counting (rec : List ℕ) (k at : ℕ) : Type 0 where
+  pub done : List ℕ
+  pub placing : Placing rec at done
+  pub counted : length done ≡ k
+  pub room : k ≤ length (textOf rec)
+  pub few : length (textOf rec) ≤ 458752
+
+module _ {rec : List ℕ} {k at : ℕ} (m : Counting rec k at) where
+  pub all-counted : length rec ≤ at → k + 1 ≡ length (textOf rec)
+  all-counted h = omega (arith, m .counted, ap length (all-done (m .placing) h), length-append (m .done) (byte ";" ∷ []))
+
+  module _ (h : at < length rec) where
+    next : NextPlace rec at (m .done)
+    next = let g = m .placing in next-place (g .named) (g .ps) (g .bs) (g .total) (g .is) (g .places) (g .blocks) h
+
+    next-room : k + length (placeText (next .o) (next .p)) ≤ length (textOf rec)
+    next-room = omega (arith, m .counted, length-append (m .done) (placeText (next .o) (next .p)), done-room (next .more))
+
+    pub place-fits : {room : ℕ} → length (textOf rec) ≤ k + room → PlaceFits rec at room
+    place-fits f =
+        record { o = next .o; named = next .named; p = next .p; rest = next .rest; has = next .has; fits = omega (arith, next-room) }
+
+    module _ {r : Put} (l : PlaceLen rec at r) where
+      next-laid : Lays (placeText (next .o) (next .p)) (at + length (bytesOf (opening (next .o) ++ placeFields (next .p)))) r
+      next-laid = l (next .o) (next .named) (next .p) (next .rest) (next .has)
+
+      pub place-on : length rec - r .next < length rec - at
+      place-on = omega (arith, next-laid .behind, some-bytes (next .o) (next .p))
+
+      pub counting-more : Counting rec (k + r .bytes) (r .next)
+      counting-more =
+          record {
+            done = m .done ++ placeText (next .o) (next .p);
+            placing = rw (next-laid .behind) (next .more);
+            counted = omega (arith, length-append (m .done) (placeText (next .o) (next .p)), m .counted, next-laid .bytes);
+            room = omega (arith, next-room, next-laid .bytes);
+            few = m .few;
+          }
+
+module _ (rec : List ℕ) (good : wellFormedBytes rec ≡ true) where
+  pub code-fits : {room : ℕ} → length (textOf rec) ≤ room → PiecesFit rec 0 codeTag room
+  code-fits h =
+      let g = start-at rec good in
+      record { w = g .w; ws = g .ws; rest = g .rest; has = g .has; fits = omega (arith, done-room (g .placing)) }
+
+  pub code-measured : PiecesFit rec 0 codeTag mostLength
+  code-measured = code-fits (omega (arith, start-at rec good .few))
+
+  pub counting-code : {r : Put} → PiecesLen rec 0 codeTag r → Counting rec (r .bytes) (r .next)
+  counting-code l =
+      let g = start-at rec good in
+      let p = l (g .w) (g .ws) (g .rest) (g .has) in
+      record {
+        done = piecesText (g .w) (g .ws);
+        placing = rw (p .behind) (g .placing);
+        counted = sym (p .bytes);
+        room = omega (arith, p .bytes, done-room (g .placing));
+        few = g .few;
+      }
 
 -- written so far, behind the code's k₀ characters, which were written before
-abbrev pub Written : List ℕ → List ℕ → List ℕ → ℕ → ℕ → ℕ → Type 0
-Written rec mid out k₀ k at = (done : List ℕ) × Placing rec at done × (length done ≡ k) × (out ≡ over done mid) × (k₀ ≤ k)
+pub record Written (rec mid out : List ℕ) (k₀ k at : ℕ) : Type 0 where
+  pub counting : Counting rec k at
+  pub is : out ≡ over (counting .done) mid
+  pub past : k₀ ≤ k
+  pub wide : length (textOf rec) ≤ length mid
+  pub long : length out ≡ length mid
+
+module _ (rec old : List ℕ) (good : wellFormedBytes rec ≡ true) {code : Put} {mid : List ℕ} (l : PutPieces rec 0 codeTag old code mid) where
+  pub written-code : length (textOf rec) ≤ length old → length mid ≡ length old → Written rec mid mid (code .bytes) (code .bytes) (code .next)
+  unfolding counting-code
+  written-code f k =
+      let g = start-at rec good in
+      record {
+        counting = counting-code rec good (λ w ws rest h. l w ws rest h .0);
+        is = again (piecesText (g .w) (g .ws)) old (l (g .w) (g .ws) (g .rest) (g .has) .1);
+        past = omega arith;
+        wide = omega arith;
+        long = refl;
+      }
+
+  -- `;` behind the last place
+  pub written-all-places : {out ys : List ℕ} {k at : ℕ} → Written rec mid out (code .bytes) k at → length rec ≤ at
+      → ys ≡ over (byte ";" ∷ []) (part out k) → back out k ys ≡ over (textOf rec) old
+  written-all-places m h y =
+      let g = start-at rec good in
+      let p = l (g .w) (g .ws) (g .rest) (g .has) in
+      let d = m .counting .done in
+      rw (all-done (m .counting .placing) h)
+      (back-over d (byte ";" ∷ []) old (written-all (piecesText (g .w) (g .ws)) d old (m .is) (p .1) (omega (arith, p .0 .bytes, m .counting .counted, m .past))) (m .counting .counted) y)
+
+module _ {rec mid out : List ℕ} {k₀ k at : ℕ} (m : Written rec mid out k₀ k at) (h : at < length rec)
+    {r : Put} {ys : List ℕ} (l : PutPlace rec at (part out k) r ys) where
+  pub written-more : Written rec mid (back out k ys) k₀ (k + r .bytes) (r .next)
+  unfolding counting-more
+  written-more =
+      let x = next (m .counting) h in
+      let more = counting-more (m .counting) h (λ o named p rest i. l o named p rest i .0) in
+      let is = back-over (m .counting .done) (placeText (x .o) (x .p)) mid (m .is) (m .counting .counted) (l (x .o) (x .named) (x .p) (x .rest) (x .has) .1) in
+      record {
+        counting = more;
+        is = is;
+        past = omega (arith, m .past);
+        wide = m .wide;
+        long = ap length is ∙ length-over (more .done) mid (omega (arith, more .counted, more .room, m .wide));
+      }
+
+  pub written-on : length rec - r .next < length rec - at
+  written-on = place-on (m .counting) h (λ o named p rest i. l o named p rest i .0)

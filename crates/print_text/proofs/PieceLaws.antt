@@ -9,7 +9,7 @@ use mathlib.Core.Path.{_∙_, _≡_, ap, refl, subst, sym}
 use native.Mathlib.Omega.{arith}
 use Rattle.laws.specs.Cases.{and-l, and-r}
 use Rattle.laws.specs.Lists.{all}
-use Rattle.laws.specs.Over.{back, back-over, over, part}
+use Rattle.laws.specs.Over.{back, back-over, length-over, over, part}
 use Rattle.rules.specs.Characters.{byte}
 use Rattle.rules.specs.Printing.{moreLex, render, wordLex}
 use Rattle.rules.specs.Records.{bytesOf, field, fieldBytes}
@@ -19,20 +19,11 @@ use Rattle.rules.specs.WellFormed.{short}
 use Rattle.print_value.proofs.StandLaws.{Stands, stands}
 use Rattle.record_walk.specs.Fronts.{tagOf}
 use Rattle.record_walk.specs.Runs.{bytesIn}
-use Rattle.print_text.specs.Places.{IsPieces, pieceFields, piecesText}
+use Rattle.print_text.specs.Places.{IsPieces, PiecesFit, PiecesLen, PutPieces, pieceFields, piecesText}
 
 -- the pieces behind the first, each behind a `-`
 abbrev pub morePieces : List (List ℕ) → List ℕ
-morePieces [] = []
-morePieces (w ∷ ws) = byte "-" ∷ (w ++ morePieces ws)
-
-more-pieces : (ws : List (List ℕ)) → render (moreLex dash (map wordLex ws)) ≡ morePieces ws
-more-pieces [] = refl
-more-pieces (w ∷ ws) = rw (more-pieces ws)
-
-pieces-text : (w : List ℕ) (ws : List (List ℕ)) → piecesText w ws ≡ w ++ morePieces ws
-unfolding piecesText
-pieces-text w ws = rw (more-pieces ws)
+morePieces ws = render (moreLex dash (map wordLex ws))
 
 abbrev pub pieceBytes : ℕ → List (List ℕ) → List ℕ
 pieceBytes t ws = bytesOf (pieceFields t ws)
@@ -47,107 +38,150 @@ pub record Piecing (rec : List ℕ) (from t : ℕ) (w : List ℕ) (ws : List (Li
   pub ends : at + length (pieceBytes t (u ∷ us)) ≡ from + length (pieceBytes t (w ∷ ws))
   pub inside : at ≤ length rec
 
-pub piecing-start : {rec : List ℕ} {from t : ℕ} {w : List ℕ} {ws : List (List ℕ)} {rest : List ℕ} → IsPieces rec from t w ws rest → Piecing rec from t w ws rest from []
-piecing-start {w = w} {ws = ws} h = record { u = w; us = ws; total = pieces-text w ws; is = h .is; good = h .good; ends = refl; inside = h .inside }
-
 none-left : (t : ℕ) (us : List (List ℕ)) (rest : List ℕ) → (tagOf (pieceBytes t us ++ rest) ≡ t → ⊥) → us ≡ []
 none-left t [] rest n = refl
 none-left t (u ∷ us) rest n = absurd (n refl)
 
--- the next piece, and those behind it
-pub record Another (us : List (List ℕ)) : Type 0 where
-  pub v : List ℕ
-  pub vs : List (List ℕ)
-  pub same : us ≡ v ∷ vs
-
-one-left : (t : ℕ) (us : List (List ℕ)) (rest : List ℕ) → (tagOf rest ≡ t → ⊥) → tagOf (pieceBytes t us ++ rest) ≡ t → Another us
-one-left t [] rest n e = absurd (n e)
-one-left t (u ∷ us) rest n e = record { v = u; vs = us; same = refl }
-
 module _ {rec : List ℕ} {from t : ℕ} {w : List ℕ} {ws : List (List ℕ)} {rest : List ℕ} (h : IsPieces rec from t w ws rest)
     {at : ℕ} {done : List ℕ} (g : Piecing rec from t w ws rest at done) where
-  pub piece-short : length (g .u) ≤ mostWord
-  piece-short = leb-true (length (g .u)) mostWord (and-l (short (g .u)) (all short (g .us)) (g .good))
+  behind-piece : drop at rec ≡ fieldBytes (field t (g .u)) ++ (pieceBytes t (g .us) ++ rest)
+  behind-piece = g .is ∙ append-assoc (fieldBytes (field t (g .u))) (pieceBytes t (g .us)) rest
 
-  pub piece-stands : Stands rec at (field t (g .u)) (pieceBytes t (g .us) ++ rest)
+  piece-stands : Stands rec at (field t (g .u)) (pieceBytes t (g .us) ++ rest)
   piece-stands =
-      stands rec at (field t (g .u)) (pieceBytes t (g .us) ++ rest) (g .is ∙ append-assoc (fieldBytes (field t (g .u))) (pieceBytes t (g .us)) rest)
-      (omega (arith, piece-short)) (g .inside)
+      let short-one = leb-true (length (g .u)) mostWord (and-l (short (g .u)) (all short (g .us)) (g .good)) in
+      stands rec at (field t (g .u)) (pieceBytes t (g .us) ++ rest) behind-piece (omega (arith, short-one)) (g .inside)
+
+  piece-room : length done + length (g .u) ≤ length (piecesText w ws)
+  piece-room = omega (arith, ap length (g .total), length-append done (g .u ++ morePieces (g .us)), length-append (g .u) (morePieces (g .us)))
 
   module _ {n : ℕ} (e : n ≡ at + (3 + getD rec (at + 2) 0)) where
-    pub piece-end : n ≡ at + 3 + length (g .u)
+    piece-end : n ≡ at + 3 + length (g .u)
     piece-end = omega (arith, piece-stands .next)
-
-    pub piece-inside : n ≤ length rec
-    piece-inside = omega (arith, piece-stands .next, piece-stands .inside)
 
     piece-beyond : drop n rec ≡ pieceBytes t (g .us) ++ rest
     piece-beyond = rw (e ∙ piece-stands .next) (piece-stands .beyond)
 
-    pub piece-is : bytesIn rec (at + 3) n ≡ g .u
+    piece-is : bytesIn rec (at + 3) n ≡ g .u
     piece-is =
         let z : n - (at + 3) ≡ length (g .u) = omega (arith, piece-end) in
-        let d : drop (at + 3) rec ≡ g .u ++ (pieceBytes t (g .us) ++ rest) =
-        sym (drop-drop 3 at rec) ∙ ap (drop 3) (g .is ∙ append-assoc (fieldBytes (field t (g .u))) (pieceBytes t (g .us)) rest) in
-        rw (z, d) (take-at (g .u) (pieceBytes t (g .us) ++ rest) (length (g .u)) refl)
+        rw (z, ← drop-drop 3 at rec, behind-piece) (take-at (g .u) (pieceBytes t (g .us) ++ rest) (length (g .u)) refl)
 
-    pub piece-over : (old : List ℕ) {xs ys : List ℕ} {k : ℕ} → xs ≡ over done old → length done ≡ k → ys ≡ over (bytesIn rec (at + 3) n) (part xs k)
+    piece-over : (old : List ℕ) {xs ys : List ℕ} {k : ℕ} → xs ≡ over done old → length done ≡ k → ys ≡ over (bytesIn rec (at + 3) n) (part xs k)
         → back xs k ys ≡ over (done ++ g .u) old
     piece-over old {xs} {ys} {k} p q y = back-over done (g .u) old p q (y ∙ ap (λ (r : List ℕ). over r (part xs k)) piece-is)
 
-    -- ---- the last piece
+    fields-end : n + length (pieceBytes t (g .us)) ≡ from + length (pieceBytes t (w ∷ ws))
+    fields-end = omega (arith, piece-end, g .ends, length-append (fieldBytes (field t (g .u))) (pieceBytes t (g .us)))
 
+    -- no piece is left
     module _ (s : tagOf (drop n rec) ≡ t → ⊥) where
       last-one : g .us ≡ []
       last-one = none-left t (g .us) rest (subst (λ (x : List ℕ). tagOf x ≡ t → ⊥) piece-beyond s)
 
-      pub pieces-done : piecesText w ws ≡ done ++ g .u
+      pieces-done : piecesText w ws ≡ done ++ g .u
       pieces-done = g .total ∙ rw (last-one, append-nil (g .u))
 
-      pub pieces-next : n ≡ from + length (pieceBytes t (w ∷ ws))
-      pieces-next =
-          omega (arith, piece-end, g .ends, length-append (fieldBytes (field t (g .u))) (pieceBytes t (g .us)), ap (λ (us : List (List ℕ)). length (pieceBytes t us)) last-one)
+      pieces-next : n ≡ from + length (pieceBytes t (w ∷ ws))
+      pieces-next = omega (arith, rw last-one at fields-end)
 
-    -- ---- another one
-
-    module _ (s : tagOf (drop n rec) ≡ t) where
-      pub another : Another (g .us)
-      another = one-left t (g .us) rest (h .ends) (sym (ap tagOf piece-beyond) ∙ s)
-
-    module _ (x : Another (g .us)) where
-      pub dash-room : length done + length (g .u) + 1 ≤ length (piecesText w ws)
-      dash-room =
-          let q : piecesText w ws ≡ done ++ (g .u ++ morePieces (x .v ∷ x .vs)) = g .total ∙ rw (x .same) in
-          omega (arith, ap length q, length-append done (g .u ++ morePieces (x .v ∷ x .vs)), length-append (g .u) (morePieces (x .v ∷ x .vs)))
-
-      pub piecing-more : Piecing rec from t w ws rest n ((done ++ g .u) ++ (byte "-" ∷ []))
-      piecing-more =
-          let d : List ℕ = byte "-" ∷ [] in
-          let r : List ℕ = x .v ++ morePieces (x .vs) in
-          record {
-            u = x .v;
-            us = x .vs;
-            total = g .total ∙ rw (x .same) (sym (append-assoc (done ++ g .u) d r ∙ append-assoc done (g .u) (d ++ r)));
-            is = piece-beyond ∙ rw (x .same);
-            good = rw (x .same) at (and-r (short (g .u)) (all short (g .us)) (g .good));
-            ends =
-                omega (arith, piece-end, g .ends, length-append (fieldBytes (field t (g .u))) (pieceBytes t (g .us)), ap (λ (us : List (List ℕ)). length (pieceBytes t us)) (x .same));
-            inside = piece-inside;
-          }
-
-  pub piece-room : length done + length (g .u) ≤ length (piecesText w ws)
-  piece-room = omega (arith, ap length (g .total), length-append done (g .u ++ morePieces (g .us)), length-append (g .u) (morePieces (g .us)))
+    -- another one
+    piecing-more : tagOf (drop n rec) ≡ t → Piecing rec from t w ws rest n ((done ++ g .u) ++ (byte "-" ∷ []))
+    piecing-more s = go (g .us) (g .total) piece-beyond (and-r (short (g .u)) (all short (g .us)) (g .good)) fields-end
+      where
+        go : (us : List (List ℕ)) → piecesText w ws ≡ done ++ (g .u ++ morePieces us) → drop n rec ≡ pieceBytes t us ++ rest → all short us ≡ true
+            → n + length (pieceBytes t us) ≡ from + length (pieceBytes t (w ∷ ws)) → Piecing rec from t w ws rest n ((done ++ g .u) ++ (byte "-" ∷ []))
+        go [] total is good ends = absurd (h .ends (sym (ap tagOf is) ∙ s))
+        go (v ∷ vs) total is good ends =
+            let d : List ℕ = byte "-" ∷ [] in
+            let r : List ℕ = v ++ morePieces vs in
+            record {
+              u = v;
+              us = vs;
+              total = total ∙ sym (append-assoc (done ++ g .u) d r ∙ append-assoc done (g .u) (d ++ r));
+              is = is;
+              good = good;
+              ends = ends;
+              inside = omega (arith, piece-end, piece-stands .inside);
+            }
 
 -- ---- the loops
 
--- measured so far
-abbrev pub Measuring : List ℕ → ℕ → ℕ → ℕ → ℕ → Type 0
-Measuring rec from t at k =
+-- what is done has k characters
+abbrev pub Done : List ℕ → ℕ → ℕ → ℕ → ℕ → Type 0
+Done rec from t at k =
     (w : List ℕ) (ws : List (List ℕ)) (rest : List ℕ) → IsPieces rec from t w ws rest
     → (done : List ℕ) × Piecing rec from t w ws rest at done × (length done ≡ k)
 
+-- measured so far; the piece at `at` stands in the record, and there is room for it
+pub record Measuring (rec : List ℕ) (from t room at k : ℕ) : Type 0 where
+  pub is : Done rec from t at k
+  pub inside : at + (3 + getD rec (at + 2) 0) ≤ length rec
+  pub fits : k + getD rec (at + 2) 0 ≤ room
+
+measuring : {rec : List ℕ} {from t room at k : ℕ} → PiecesFit rec from t room → Done rec from t at k → Measuring rec from t room at k
+measuring f d =
+    let x = d (f .w) (f .ws) (f .rest) (f .has) in
+    let s = piece-stands (f .has) (x .1) in
+    record { is = d; inside = omega (arith, s .next, s .inside); fits = omega (arith, s .next, piece-room (f .has) (x .1), x .2, f .fits) }
+
+pub measuring-none : {rec : List ℕ} {from t room : ℕ} → PiecesFit rec from t room → Measuring rec from t room from 0
+unfolding piecesText
+measuring-none f =
+    measuring f (λ w ws rest h.
+    ([], record { u = w; us = ws; total = refl; is = h .is; good = h .good; ends = refl; inside = h .inside }, refl))
+
+module _ {rec : List ℕ} {from t room at k : ℕ} (m : Measuring rec from t room at k) {n : ℕ} (e : n ≡ at + (3 + getD rec (at + 2) 0))
+    {tag : ℕ} (q : tag ≡ tagOf (drop n rec)) where
+  pub pieces-laid : (tag ≡ t → ⊥) → PiecesLen rec from t (record { bytes = k + (n - at - 3); next = n })
+  pieces-laid s w ws rest h =
+      let x = m .is w ws rest h in
+      let z : tagOf (drop n rec) ≡ t → ⊥ = λ y. s (q ∙ y) in
+      record {
+        bytes = omega (arith, ap length (pieces-done h (x .1) e z), length-append (x .0) (x .1 .u), x .2, piece-end h (x .1) e);
+        behind = pieces-next h (x .1) e z;
+      }
+
+  pub measuring-more : tag ≡ t → PiecesFit rec from t room → Measuring rec from t room n (k + (n - at - 3) + 1)
+  measuring-more s f =
+      measuring f (λ w ws rest h.
+      let x = m .is w ws rest h in (
+        (x .0 ++ x .1 .u) ++ (byte "-" ∷ []),
+        piecing-more h (x .1) e (sym q ∙ s),
+        omega (arith, length-append (x .0 ++ x .1 .u) (byte "-" ∷ []), length-append (x .0) (x .1 .u), x .2, piece-end h (x .1) e),
+      ))
+
 -- written so far
-abbrev pub Writing : List ℕ → ℕ → ℕ → List ℕ → List ℕ → ℕ → ℕ → Type 0
-Writing rec from t old out at k =
-    (w : List ℕ) (ws : List (List ℕ)) (rest : List ℕ) → IsPieces rec from t w ws rest
-    → (done : List ℕ) × Piecing rec from t w ws rest at done × (length done ≡ k) × (out ≡ over done old)
+pub record Writing (rec : List ℕ) (from t : ℕ) (old out : List ℕ) (at k : ℕ) : Type 0 where
+  pub measured : Measuring rec from t (length old) at k
+  pub is : (w : List ℕ) (ws : List (List ℕ)) (rest : List ℕ) (h : IsPieces rec from t w ws rest) → out ≡ over (measured .is w ws rest h .0) old
+  pub long : length out ≡ length old
+
+pub writing-none : {rec : List ℕ} {from t : ℕ} (old : List ℕ) → PiecesFit rec from t (length old) → Writing rec from t old old from 0
+unfolding measuring measuring-none
+writing-none old f = record { measured = measuring-none f; is = λ w ws rest h. refl; long = refl }
+
+module _ {rec : List ℕ} {from t at k : ℕ} {old out : List ℕ} (m : Writing rec from t old out at k)
+    {n : ℕ} (e : n ≡ at + (3 + getD rec (at + 2) 0)) {ys : List ℕ} (y : ys ≡ over (bytesIn rec (at + 3) n) (part out k))
+    {tag : ℕ} (q : tag ≡ tagOf (drop n rec)) where
+  pub pieces-written : (tag ≡ t → ⊥) → PutPieces rec from t old (record { bytes = k + (n - at - 3); next = n }) (back out k ys)
+  pieces-written s w ws rest h =
+      let x = m .measured .is w ws rest h in
+      let z : tagOf (drop n rec) ≡ t → ⊥ = λ y. s (q ∙ y) in (
+        pieces-laid (m .measured) e q s w ws rest h,
+        rw (pieces-done h (x .1) e z) (piece-over h (x .1) e old (m .is w ws rest h) (x .2) y),
+      )
+
+  pub writing-more : tag ≡ t → PiecesFit rec from t (length old) → {zs : List ℕ} → zs ≡ over (byte "-" ∷ []) (part (back out k ys) (k + (n - at - 3)))
+      → Writing rec from t old (back (back out k ys) (k + (n - at - 3)) zs) n (k + (n - at - 3) + 1)
+  unfolding measuring measuring-more
+  writing-more s f {zs} z =
+      let more = measuring-more (m .measured) e q s f in
+      let b : List ℕ = back (back out k ys) (k + (n - at - 3)) zs in
+      let is : (w : List ℕ) (ws : List (List ℕ)) (rest : List ℕ) (h : IsPieces rec from t w ws rest) → b ≡ over (more .is w ws rest h .0) old =
+      λ w ws rest h.
+      let x = m .measured .is w ws rest h in
+      back-over (x .0 ++ x .1 .u) (byte "-" ∷ []) old (piece-over h (x .1) e old (m .is w ws rest h) (x .2) y)
+      (omega (arith, length-append (x .0) (x .1 .u), x .2, piece-end h (x .1) e)) z in
+      let d = more .is (f .w) (f .ws) (f .rest) (f .has) in
+      record { measured = more; is = is; long = ap length (is (f .w) (f .ws) (f .rest) (f .has)) ∙ length-over (d .0) old (omega (arith, d .2, more .fits)) }

@@ -1,3 +1,4 @@
+pub mod ChainLaws
 pub mod PowerLaws
 pub mod TextLaws
 pub mod StringLaws

@@ -22,7 +22,7 @@ use Rattle.record_walk.proofs.RunLaws.{drop-behind, stands-inside}
 use Rattle.record_walk.proofs.WalkLaws.{tag-there}
 use Rattle.record_walk.specs.Fronts.{tagOf}
 use Rattle.print_value.proofs.ShortLaws.{short-is, short-same, span}
-use Rattle.print_value.specs.Values.{Behind, IsElement, IsUnits, Stood, dashed, elementText, headLength, headSize, jointSize, jointText, lastAt, printedFrom, shortAt, unitBytes, unitsText}
+use Rattle.print_value.specs.Values.{IsElement, IsUnits, Stood, dashed, elementText, headLength, headSize, jointSize, jointText, lastAt, printedFrom, shortAt, unitBytes, unitsText}
 
 -- ---- where its pieces stand
 
@@ -43,9 +43,13 @@ element-bytes : (e : Element) (rest : List ℕ) → bytesOf (elementFields e) ++
 element-bytes (single l u) rest = refl
 element-bytes (range l r lo up inc) rest = refl
 
-element-size : (e : Element) → length (bytesOf (elementFields e)) ≡ headSize e + length (unitBytes (leading e ++ (lastUnit e ∷ [])))
+pub element-size : (e : Element) → length (bytesOf (elementFields e)) ≡ headSize e + length (unitBytes (leading e ++ (lastUnit e ∷ [])))
 element-size (single l u) = omega arith
 element-size (range l r lo up inc) = omega arith
+
+pub some-head : (e : Element) → 3 ≤ headSize e
+some-head (single l u) = omega arith
+some-head (range l r lo up inc) = omega arith
 
 head-long : (e : Element) → length (fieldBytes (headField e)) ≡ headSize e
 head-long (single l u) = refl
@@ -77,10 +81,6 @@ module _ {rec : List ℕ} {at base : ℕ} {b : Base} {e : Element} {rest : List 
 
   pub own-inside : at < length rec
   own-inside = omega (arith, head-inside, some-head e)
-    where
-      some-head : (e : Element) → 3 ≤ headSize e
-      some-head (single l u) = omega arith
-      some-head (range l r lo up inc) = omega arith
 
   pub head-is : {t : ℕ} → t ≡ getD rec at 0 → headLength t ≡ headSize e
   head-is q =
@@ -93,16 +93,15 @@ module _ {rec : List ℕ} {at base : ℕ} {b : Base} {e : Element} {rest : List 
   pub leading-is : drop (at + headSize e) rec ≡ unitBytes (leading e) ++ (unitBytes (lastUnit e ∷ []) ++ rest)
   leading-is = units-is ∙ rw (units-bytes (leading e) (lastUnit e ∷ [])) (append-assoc (unitBytes (leading e)) (unitBytes (lastUnit e ∷ [])) rest)
 
-  all-good : all (wfUnit b) (leading e ++ (lastUnit e ∷ [])) ≡ true
-  all-good =
-      all-append (wfUnit b) (leading e) (lastUnit e ∷ []) (ok-lead b (length (leading e)) e (h .good)) (rw (ok-last b (length (leading e)) e (h .good)))
+  last-good : wfUnit b (lastUnit e) ≡ true
+  last-good = ok-last b (length (leading e)) e (h .good)
 
   -- all units, from the first one on
   pub full-units : IsUnits rec (at + headSize e) base b (firstUnit (leading e) (lastUnit e)) (others (leading e) (lastUnit e)) rest
   full-units = record {
     under = h .under;
     is = units-is ∙ rw (units-split (leading e) (lastUnit e));
-    good = subst (λ (us : List Unit). all (wfUnit b) us ≡ true) (units-split (leading e) (lastUnit e)) all-good;
+    good = subst (λ (us : List Unit). all (wfUnit b) us ≡ true) (units-split (leading e) (lastUnit e)) (all-append (wfUnit b) (leading e) (lastUnit e ∷ []) (ok-lead b (length (leading e)) e (h .good)) (rw last-good));
     ends = h .ends;
     inside = head-inside;
   }
@@ -112,17 +111,10 @@ module _ {rec : List ℕ} {at base : ℕ} {b : Base} {e : Element} {rest : List 
   last-unit = record {
     under = h .under;
     is = drop-behind rec (at + headSize e) (unitBytes (leading e)) (unitBytes (lastUnit e ∷ []) ++ rest) leading-is;
-    good = rw (ok-last b (length (leading e)) e (h .good));
+    good = rw last-good;
     ends = h .ends;
     inside = stands-inside rec (at + headSize e) (unitBytes (leading e)) (unitBytes (lastUnit e ∷ []) ++ rest) leading-is head-inside;
   }
-
-  pub all-next : at + headSize e + length (unitBytes (firstUnit (leading e) (lastUnit e) ∷ others (leading e) (lastUnit e))) ≡ at + length (bytesOf (elementFields e))
-  all-next = omega (arith, element-size e, ap (λ (us : List Unit). length (unitBytes us)) (units-split (leading e) (lastUnit e)))
-
-  pub last-next : at + headSize e + length (unitBytes (leading e)) + length (unitBytes (lastUnit e ∷ [])) ≡ at + length (bytesOf (elementFields e))
-  last-next =
-      omega (arith, element-size e, ap length (units-bytes (leading e) (lastUnit e ∷ [])), length-append (unitBytes (leading e)) (unitBytes (lastUnit e ∷ [])))
 
 -- ---- the text of the units
 
@@ -180,7 +172,7 @@ module _ {rec : List ℕ} {at base : ℕ} {b : Base} {e : Element} {rest : List 
         few = m;
         is = t;
         last = last-at (at + headSize e) (leading e) (lastUnit e);
-        next = all-next h;
+        next = omega (arith, element-size e, ap (λ (us : List Unit). length (unitBytes us)) (units-split (leading e) (lastUnit e)));
       }
 
   first-printed : Printed rec at base b none e rest 0 (at + headSize e)
@@ -201,29 +193,20 @@ module _ {rec : List ℕ} {at base : ℕ} {b : Base} {e : Element} {rest : List 
         few = omega arith;
         is = rw (y, lex-text b (lastUnit e), append-nil (unitText b (lastUnit e)));
         last = refl;
-        next = last-next h;
+        next = omega (arith, element-size e, ap length (units-bytes (leading e) (lastUnit e ∷ [])), length-append (unitBytes (leading e)) (unitBytes (lastUnit e ∷ [])));
       }
-
-  later-printed : {from lead until first : ℕ} (e₀ : Element) → Behind rec from at lead until e₀ e → first ≡ at + headSize e
-      → Printed rec at base b (some e₀) e rest (jointSize rec from at first lead until) (printedFrom (jointSize rec from at first lead until) first lead until)
-  unfolding jointSize printedFrom
-  later-printed {from} {lead} {until} {first} e₀ s q =
-      let d : drop first rec ≡ unitBytes (leading e) ++ (unitBytes (lastUnit e ∷ []) ++ rest) = rw q (leading-is h) in
-      let c : shortAt rec first lead until ≡ isShort e₀ e = short-is s first (unitBytes (lastUnit e ∷ []) ++ rest) d in
-      let z : at ≡ from → ⊥ = λ w. omega (arith, s .past) in
-      byBool (isShort e₀ e)
-      (λ y.
-      let w : first + (until - lead) ≡ at + headSize e + length (unitBytes (leading e)) =
-      omega (arith, q, span s, ap (λ (us : List Unit). length (unitBytes us)) (short-same e₀ e y)) in
-      rw (ne-eqb at from z, c, y, w) (short-printed e₀ y))
-      (λ y. rw (ne-eqb at from z, c, y, q) (full-printed e₀ y))
 
   pub printed : (from lead until : ℕ) {first n begin : ℕ} (before : Option Element) → Stood rec from at lead until before e → first ≡ at + headSize e
       → n ≡ jointSize rec from at first lead until → begin ≡ printedFrom n first lead until → Printed rec at base b before e rest n begin
   unfolding jointSize printedFrom
   printed from lead until none s q p r = rw (r, p, eq-eqb at from (s .same), q) first-printed
-  printed from lead until (some e₀) s q p r = rw (r, p) (later-printed e₀ s q)
-
-pub stood-low : (rec : List ℕ) (from at lead until : ℕ) (before : Option Element) (e : Element) → Stood rec from at lead until before e → (lead ≤ until) × (until ≤ length rec)
-stood-low rec from at lead until none e s = (s .low, s .high)
-stood-low rec from at lead until (some e₀) e s = (s .low, s .high)
+  printed from lead until {first} (some e₀) s q p r =
+      let d : drop first rec ≡ unitBytes (leading e) ++ (unitBytes (lastUnit e ∷ []) ++ rest) = rw q (leading-is h) in
+      let c : shortAt rec first lead until ≡ isShort e₀ e = short-is s first (unitBytes (lastUnit e ∷ []) ++ rest) d in
+      let z : at ≡ from → ⊥ = λ w. omega (arith, s .past) in
+      rw (r, p) (byBool (isShort e₀ e)
+      (λ y.
+      let w : first + (until - lead) ≡ at + headSize e + length (unitBytes (leading e)) =
+      omega (arith, q, span s, ap (λ (us : List Unit). length (unitBytes us)) (short-same e₀ e y)) in
+      rw (ne-eqb at from z, c, y, w) (short-printed e₀ y))
+      (λ y. rw (ne-eqb at from z, c, y, q) (full-printed e₀ y)))

@@ -1,41 +1,41 @@
 -- The end of a range in its pieces, and their lengths.
-use Prim.Native.Nat.{_+_, _≤_, ℕ}
-use borrow.Author.Tests.{eq-eqb, eqb-false, eqb-true, ne-eqb}
+use Prim.Native.Nat.{_+_, _<_, _≤_, suc, zero, ℕ}
+use borrow.Author.Tests.{eq-eqb, eqb-true, ne-eqb}
 use lib.Dec.{eqb, ltb}
-use lib.ListN.{drop, getD, length, length-append}
+use lib.ListN.{getD, length, length-append, set}
+use lib.Seq.{sets-eq}
 use mathlib.Core.Bool.{Bool, false, true}
 use mathlib.Core.List.{List, [], _++_, _∷_}
-use mathlib.Core.Path.{_∙_, _≡_, ap, sym}
+use mathlib.Core.Path.{_≡_, refl}
 use native.Mathlib.Omega.{arith}
-use Rattle.laws.specs.Cases.{byBool, pick}
+use Rattle.laws.specs.Cases.{byBool}
+use Rattle.laws.specs.Over.{back, over, part, part-from}
 use Rattle.rules.specs.Characters.{byte}
 use Rattle.rules.specs.Records.{num4, rangeTag}
+use Rattle.print_unit.proofs.ChainLaws.{Puts, both-put}
 use Rattle.print_unit.proofs.TextLaws.{number-most, numeral-len, prefix-most}
 use Rattle.print_unit.specs.Texts.{numeralText}
 use Rattle.record_walk.specs.Runs.{bytesIn}
 use Rattle.print_value.specs.Begins.{begins}
 use Rattle.print_value.specs.Values.{endAt, incrementText, jointSize, jointText, rangeEnd, shortAt, throughText}
 
-pub increment-none : (base l inc : ℕ) → inc ≡ 1 → incrementText base l inc ≡ []
-unfolding incrementText
-increment-none base l inc e = rw (eq-eqb inc 1 e)
-
-pub increment-some : (base l inc : ℕ) → (inc ≡ 1 → ⊥) → incrementText base l inc ≡ (byte "+" ∷ byte "+" ∷ []) ++ numeralText base l 0 inc
-unfolding incrementText
-increment-some base l inc n = rw (ne-eqb inc 1 n)
-
 pub range-len : (base l : ℕ) (c : Bool) (up inc : ℕ)
     → length (rangeEnd base l c up inc) ≡ length (throughText c) + length (numeralText base l 0 up) + length (incrementText base l inc)
 unfolding rangeEnd
-range-len base l c up inc =
-    length-append (throughText c ++ numeralText base l 0 up) (incrementText base l inc)
-    ∙ ap (λ (n : ℕ). n + length (incrementText base l inc)) (length-append (throughText c) (numeralText base l 0 up))
+range-len base l c up inc = simp length-append
 
-pub through-compound : (c : Bool) → c ≡ true → throughText c ≡ byte "&" ∷ byte "&" ∷ byte "-" ∷ []
-through-compound c e = rw e
+pub range-put : (base l : ℕ) (c : Bool) (up inc : ℕ) (old : List ℕ) {p q r : ℕ} {xs ys zs : List ℕ} → Puts (throughText c) old p xs
+    → Puts (numeralText base l 0 up) (part xs p) q ys → Puts (incrementText base l inc) (part (back xs p ys) (p + q)) r zs
+    → Puts (rangeEnd base l c up inc) old (p + q + r) (back (back xs p ys) (p + q) zs)
+unfolding rangeEnd
+range-put base l c up inc old x y z =
+    let U : List ℕ = numeralText base l 0 up in
+    both-put (throughText c ++ U) (incrementText base l inc) old (both-put (throughText c) U old x y) z
 
-pub through-simple : (c : Bool) → c ≡ false → throughText c ≡ byte "&" ∷ byte "&" ∷ []
-through-simple c e = rw e
+pub increment-put : (base l inc : ℕ) (old : List ℕ) {q : ℕ} {xs ys : List ℕ} → (inc ≡ 1 → ⊥) → xs ≡ over (byte "+" ∷ byte "+" ∷ []) old
+    → Puts (numeralText base l 0 inc) (part xs 2) q ys → Puts (incrementText base l inc) old (2 + q) (back xs 2 ys)
+unfolding incrementText
+increment-put base l inc old n x y = rw (ne-eqb inc 1 n) (both-put (byte "+" ∷ byte "+" ∷ []) (numeralText base l 0 inc) old (refl, x) y)
 
 pub through-most : (c : Bool) → length (throughText c) ≤ 3
 through-most true = omega arith
@@ -49,13 +49,8 @@ pub whole-numeral-most : (base l v : ℕ) → length (numeralText base l 0 v) �
 whole-numeral-most base l v = omega (arith, numeral-len base l 0 v, prefix-most base l, number-most l 0 v)
 
 pub increment-most : (base l inc : ℕ) → length (incrementText base l inc) ≤ 37
-increment-most base l inc =
-    byBool (eqb inc 1)
-    (λ y. rw (increment-none base l inc (eqb-true inc 1 y)) (omega arith))
-    (λ y. rw (increment-some base l inc (eqb-false inc 1 y)) (omega (arith, whole-numeral-most base l inc)))
-
-pub range-most : (base l : ℕ) (c : Bool) (up inc : ℕ) → length (rangeEnd base l c up inc) ≤ 75
-range-most base l c up inc = omega (arith, range-len base l c up inc, through-most c, whole-numeral-most base l up, increment-most base l inc)
+unfolding incrementText
+increment-most base l inc = byBool (eqb inc 1) (λ y. rw y (omega arith)) (λ y. rw y (omega (arith, whole-numeral-most base l inc)))
 
 module _ (rec : List ℕ) (at first last base : ℕ) where
   pub end-none : (getD rec at 0 ≡ rangeTag → ⊥) → endAt rec at first last base ≡ []
@@ -67,50 +62,63 @@ module _ (rec : List ℕ) (at first last base : ℕ) where
   unfolding endAt
   end-some e p q = rw (eq-eqb (getD rec at 0) rangeTag e, p, q)
 
+  pub none-measured : (getD rec at 0 ≡ rangeTag → ⊥) → 0 ≡ length (endAt rec at first last base)
+  none-measured n = rw (end-none n)
+
+  pub end-measured : getD rec at 0 ≡ rangeTag → {up inc r : ℕ} → up ≡ num4 rec (at + 3) → inc ≡ num4 rec (at + 7)
+      → r ≡ length (rangeEnd base (getD rec (last + 3) 0) (ltb first last) up inc) → r ≡ length (endAt rec at first last base)
+  end-measured e p q m = rw (end-some e p q) m
+
 -- ---- what stands before an argument
-
-pub joint-zero : (n : ℕ) → n ≡ 0 → jointText n ≡ []
-unfolding jointText
-joint-zero n e = rw (eq-eqb n 0 e)
-
-pub joint-two : (n : ℕ) → (n ≡ 0 → ⊥) → n ≡ 2 → jointText n ≡ byte "&" ∷ byte "-" ∷ []
-unfolding jointText
-joint-two n z e = rw (ne-eqb n 0 z, eq-eqb n 2 e)
-
-pub joint-one : (n : ℕ) → (n ≡ 0 → ⊥) → (n ≡ 2 → ⊥) → jointText n ≡ byte "&" ∷ []
-unfolding jointText
-joint-one n z e = rw (ne-eqb n 0 z, ne-eqb n 2 e)
 
 pub joint-size : (n : ℕ) → n ≤ 2 → length (jointText n) ≡ n
 unfolding jointText
-joint-size n h =
-    byBool (eqb n 0)
-    (λ y. rw y (sym (eqb-true n 0 y)))
-    (λ y. byBool (eqb n 2) (λ z. rw (y, z) (sym (eqb-true n 2 z))) (λ z. rw (y, z) (one (eqb-false n 0 y) (eqb-false n 2 z))))
-  where
-    one : (n ≡ 0 → ⊥) → (n ≡ 2 → ⊥) → 1 ≡ n
-    one a b = omega arith
+joint-size zero h = refl
+joint-size (suc zero) h = refl
+joint-size (suc (suc zero)) h = refl
+joint-size (suc (suc (suc n))) h = absurd (omega arith)
 
-pub joint-some : (n : ℕ) → (n ≡ 0 → ⊥) → 1 ≤ length (jointText n)
-joint-some n z =
-    byBool (eqb n 2)
-    (λ y. rw (joint-two n z (eqb-true n 2 y)) (omega arith))
-    (λ y. rw (joint-one n z (eqb-false n 2 y)) (omega arith))
+module _ (n : ℕ) (old : List ℕ) where
+  pub none-put : n ≡ 0 → old ≡ over (jointText n) old
+  unfolding jointText
+  none-put e = rw (eq-eqb n 0 e) refl
+
+  module _ (z : n ≡ 0 → ⊥) (h : length (jointText n) ≤ length old) where
+    pub short-room : n ≡ 2 → 1 < length old
+    unfolding jointText
+    short-room e = rw (ne-eqb n 0 z, eq-eqb n 2 e) at h
+
+    pub short-put : n ≡ 2 → set (set old 0 (byte "&")) 1 (byte "-") ≡ over (jointText n) old
+    unfolding jointText
+    short-put e = rw (ne-eqb n 0 z, eq-eqb n 2 e) (sets-eq (byte "&" ∷ byte "-" ∷ []) old 0 (short-room e))
+
+    pub full-room : 0 < length old
+    unfolding jointText
+    full-room = byBool (eqb n 2) (λ y. let s = short-room (eqb-true n 2 y) in omega arith) (λ y. rw (ne-eqb n 0 z, y) at h)
+
+    pub full-put : (n ≡ 2 → ⊥) → set old 0 (byte "&") ≡ over (jointText n) old
+    unfolding jointText
+    full-put e = rw (ne-eqb n 0 z, ne-eqb n 2 e) (sets-eq (byte "&" ∷ []) old 0 full-room)
 
 module _ (rec : List ℕ) (from at first lead until : ℕ) where
   pub size-first : at ≡ from → 0 ≡ jointSize rec from at first lead until
   unfolding jointSize
   size-first e = rw (eq-eqb at from e)
 
-  pub size-later : {t : Bool} {r : ℕ} → (at ≡ from → ⊥) → t ≡ shortAt rec first lead until → r ≡ pick t 2 1 → r ≡ jointSize rec from at first lead until
-  unfolding jointSize
-  size-later n e q = rw (ne-eqb at from n, ← e) q
+  module _ (n : at ≡ from → ⊥) {t : Bool} (e : t ≡ shortAt rec first lead until) where
+    pub size-short : t ≡ true → 2 ≡ jointSize rec from at first lead until
+    unfolding jointSize
+    size-short y = rw (ne-eqb at from n, ← e, y)
+
+    pub size-full : t ≡ false → 1 ≡ jointSize rec from at first lead until
+    unfolding jointSize
+    size-full y = rw (ne-eqb at from n, ← e, y)
 
 module _ (rec : List ℕ) (first lead until : ℕ) where
   pub short-none : lead ≡ until → false ≡ shortAt rec first lead until
   unfolding shortAt
   short-none e = rw (eq-eqb lead until e)
 
-  pub short-some : {t : Bool} → (lead ≡ until → ⊥) → t ≡ begins (drop first rec) (bytesIn rec lead until) → t ≡ shortAt rec first lead until
+  pub short-some : {t : Bool} → (lead ≡ until → ⊥) → t ≡ begins (part rec first) (bytesIn rec lead until) → t ≡ shortAt rec first lead until
   unfolding shortAt
-  short-some n e = rw (ne-eqb lead until n) e
+  short-some n e = rw (ne-eqb lead until n, ← part-from rec first) e

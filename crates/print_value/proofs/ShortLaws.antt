@@ -1,7 +1,7 @@
 -- Leading units of equal number are the same exactly where the bytes begin the same, since a field tells its own length.
-use Prim.Native.Nat.{_%_, _-_, _/_, _<_, ℕ}
-use borrow.Author.Tests.{eq-eqb, eqb-false, eqb-true, ne-eqb}
-use lib.Dec.{eqb}
+use Prim.Native.Nat.{_%_, _+_, _-_, _/_, _<_, ℕ}
+use borrow.Author.Tests.{eq-eqb, eqb-true, le-ltb, lt-ltb, ne-eqb}
+use lib.Dec.{eqb, ltb}
 use lib.ListN.{drop, length, length-drop}
 use lib.Seq.{length-take-le}
 use mathlib.Core.Bool.{_&&_, not, true}
@@ -50,9 +50,14 @@ begins-units (i ∷ k) (j ∷ l) rest h =
 field-some : (f : Field) (x : List ℕ) → 0 < length (fieldBytes f ++ x)
 field-some (field t w) x = omega arith
 
-pub some-units : (l : List Unit) (n : ℕ) → n ≡ length (unitBytes l) → eqb n 0 ≡ isNil l
-some-units [] n e = eq-eqb n 0 e
-some-units (i ∷ l) n e = ne-eqb n 0 (λ z. omega (arith, field-some (unitField i) (unitBytes l)))
+-- units stand between two places, or none
+pub none-between : (l : List Unit) (at last : ℕ) → last ≡ at + length (unitBytes l) → eqb at last ≡ isNil l
+none-between [] at last e = eq-eqb at last (omega arith)
+none-between (i ∷ l) at last e = ne-eqb at last (λ z. omega (arith, field-some (unitField i) (unitBytes l)))
+
+pub some-between : (l : List Unit) (at last : ℕ) → last ≡ at + length (unitBytes l) → ltb at last ≡ not (isNil l)
+some-between [] at last e = le-ltb at last (omega arith)
+some-between (i ∷ l) at last e = lt-ltb at last (omega (arith, field-some (unitField i) (unitBytes l)))
 
 same-length : (k l : List Unit) → length k ≡ length l → isNil k ≡ isNil l
 same-length [] [] h = refl
@@ -65,10 +70,7 @@ module _ {rec : List ℕ} {from at lead until : ℕ} {e₀ e : Element} (s : Beh
   span = sym (length-take-le (until - lead) (drop lead rec) (omega (arith, s .low, s .high, length-drop lead rec))) ∙ ap length (s .bytes)
 
   simple : eqb lead until ≡ isNil (leading e)
-  simple =
-      byBool (eqb (until - lead) 0)
-      (λ y. eq-eqb lead until (omega (arith, eqb-true (until - lead) 0 y, s .low)) ∙ sym y ∙ some-units (leading e₀) (until - lead) span ∙ same-length (leading e₀) (leading e) (s .many))
-      (λ y. ne-eqb lead until (λ z. eqb-false (until - lead) 0 y (omega arith)) ∙ sym y ∙ some-units (leading e₀) (until - lead) span ∙ same-length (leading e₀) (leading e) (s .many))
+  simple = none-between (leading e₀) lead until (omega (arith, span, s .low)) ∙ same-length (leading e₀) (leading e) (s .many)
 
   -- the test of the bytes is the rules' test
   pub short-is : (first : ℕ) (rest : List ℕ) → drop first rec ≡ unitBytes (leading e) ++ rest → shortAt rec first lead until ≡ isShort e₀ e
@@ -76,4 +78,4 @@ module _ {rec : List ℕ} {from at lead until : ℕ} {e₀ e : Element} (s : Beh
   short-is first rest d = rw (simple, d, s .bytes, begins-units (leading e₀) (leading e) rest (s .many))
 
 pub short-same : (e₀ e : Element) → isShort e₀ e ≡ true → leading e₀ ≡ leading e
-short-same e₀ e h = same-items (leading e₀) (leading e) (and-r (not (isNil (leading e))) (sameUnits (leading e₀) (leading e)) h)
+short-same e₀ e h = same-items (leading e₀) (leading e) (search (and-r))

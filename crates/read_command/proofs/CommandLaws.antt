@@ -21,7 +21,7 @@ use Rattle.read_pieces.specs.Pieces.{piecesAt}
 use Rattle.token_table.specs.Parts.{before, placeOr, partsFrom, wordsIn, wordsSize, capped}
 use Rattle.token_table.proofs.FindLaws.{parts-all, parts-next, cut-at, cut-none}
 use Rattle.token_table.proofs.WordLaws.{pieces-words, words-bytes, cap-cap, cap-most, cap-small}
-use Rattle.token_table.proofs.VerdictLaws.{verdict-ok, verdict-bad}
+use Rattle.token_table.proofs.AltLaws.{verdict-ok, verdict-bad}
 use Rattle.read_place.proofs.PlaceLaws.{bytes-length}
 use Rattle.read_command.specs.Blocks.{opened, tallyPlaces, tallyBlocks, blocksRead, tallyRead, commandRead}
 use Rattle.read_command.specs.declared.Tally.{Tally}

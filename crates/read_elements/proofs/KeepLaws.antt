@@ -3,16 +3,15 @@ use Prim.Native.Nat.{ℕ}
 use mathlib.Core.Path.{_≡_, refl, sym, subst}
 use mathlib.Core.Bool.{cond}
 use mathlib.Core.List.{List, [], _∷_}
-use mathlib.Core.Option.{Option, none, some}
-use borrow.Author.Tests.{eqb-true}
 use lib.Dec.{leb, eqb}
-use Rattle.laws.specs.Cases.{Always, byBool, byOption, none≢some, some-inj}
+use Rattle.laws.specs.Cases.{Always, byBool, byOption}
 use Rattle.laws.specs.Lists.{isNil}
 use Rattle.rules.specs.Commands.{Element, range, leading, lastUnit}
 use Rattle.rules.specs.Groups.{Join, join, endOf, ends, incOf, noMore, increment, upper}
 use Rattle.rules.specs.Refusals.{Res, ok, bad}
 use Rattle.rules.specs.Tokens.{sepCode, ampamp, ampamp-, plusplus}
-use Rattle.rules.specs.Units.{Radix, sameRadix, Unit, num, keyed, identifier, symbolic, text}
+use Rattle.rules.proofs.ReadSteps.{end-is, ends-are}
+use Rattle.rules.specs.Units.{Radix, Unit, num}
 
 abbrev pub Keeps : List Unit → Unit → Res Element → Type 0
 Keeps l u (ok e) = (leading e ≡ l) × (lastUnit e ≡ u)
@@ -29,32 +28,13 @@ increment-keeps (join s q p i ∷ js) l r lo up =
     (λ y. byOption (incOf r i) (λ z. rw (y, increment, z) tt) (λ k z. rw (y, increment, z) (no-more-keeps js l r lo up k)))
     (λ y. rw (y, increment) tt)
 
--- the unit that is an end
-end-is : (u : Unit) (x : Radix × ℕ) → endOf u ≡ some x → u ≡ num (x .0) 0 (x .1)
-end-is (num s f v) x h =
-    byBool (eqb f 0)
-    (λ y. let e : (s, v) ≡ x = some-inj (rw y at h) in rw (eqb-true f 0 y, ← e))
-    (λ y. none≢some (rw y at h))
-end-is (keyed w) x h = none≢some h
-end-is (identifier w) x h = none≢some h
-end-is (symbolic w) x h = none≢some h
-end-is (text w) x h = none≢some h
-
-ends-left : (a b : Option (Radix × ℕ)) (x : Radix × ℕ × ℕ) → ends a b ≡ some x → a ≡ some (x .0, x .1)
-ends-left none b x h = none≢some h
-ends-left (some a) none x h = none≢some h
-ends-left (some a) (some c) x h =
-    byBool (sameRadix (a .0) (c .0))
-    (λ y. let e : (a .0, a .1, c .1) ≡ x = some-inj (rw y at h) in rw (← e))
-    (λ y. none≢some (rw y at h))
-
 pub upper-keeps : (js : List (Join Unit)) (l : List Unit) (u : Unit) → Keeps l u (upper l u js)
 upper-keeps [] l u = (refl, refl)
 upper-keeps (join s q p i ∷ js) l u =
     byBool (eqb (sepCode s) (cond (isNil l) (sepCode ampamp) (sepCode ampamp-)))
     (λ y. byOption (ends (endOf u) (endOf i)) (λ z. rw (y, upper, z) tt)
     (λ x z.
-    let e : u ≡ num (x .0) 0 (x .1) = end-is u (x .0, x .1) (ends-left (endOf u) (endOf i) x z) in
+    let e : u ≡ num (x .0) 0 (x .1) = end-is u (x .0) (x .1) (ends-are (endOf u) (endOf i) x z .0) in
     byBool (leb (x .1) (x .2))
     (λ w. rw (y, upper, z, w) (subst (λ v. Keeps l v (increment l (x .0) (x .1) (x .2) js)) (sym e) (increment-keeps js l (x .0) (x .1) (x .2))))
     (λ w. rw (y, upper, z, w) tt)))

@@ -1,5 +1,5 @@
 -- The walk: at every turn the elements behind those counted are the rules' elements from the n-th unit on.
-use Prim.Native.Nat.{ℕ, suc, _+_, _-_, _*_, _≤_, _<_}
+use Prim.Native.Nat.{ℕ, suc, _+_, _-_, _*_, _^_, _≤_, _<_}
 use mathlib.Core.Path.{_≡_, refl, sym, _∙_, ap, ap₂, subst}
 use mathlib.Core.Bool.{true, false, false≢true}
 use mathlib.Core.List.{List, [], _∷_, map}
@@ -219,7 +219,7 @@ module _ (b : ℕ) (cs ts : List ℕ) {k n c a : ℕ} (w : Walking (joinsIn b cs
     walking-bad f o =
         sym (w .is ∙ rw (here e h, le-leb (suc c) 64 (omega arith), laterElements, missed (joinsIn b cs ts) (w .l) k n (w .long) y q o))
 
-    pub walking-more : c < 64 → s .ok ≡ true → s .more ≤ 4294967295 → Walking (joinsIn b cs ts) k (s .next) (c + 1) (a + (s .more + 1))
+    pub walking-more : c < 64 → s .ok ≡ true → s .more < 2 ^ 32 → Walking (joinsIn b cs ts) k (s .next) (c + 1) (a + (s .more + 1))
     walking-more f o sm =
         let js = joinsIn b cs ts in
         let v = found js (w .l) k n (w .long) y q o in
@@ -232,5 +232,5 @@ module _ (b : ℕ) (cs ts : List ℕ) {k n c a : ℕ} (w : Walking (joinsIn b cs
           small = omega (arith, w .small);
         }
 
-    pub walking-on : s .ok ≡ true → n < s .next
-    walking-on o = let v = found (joinsIn b cs ts) (w .l) k n (w .long) y q o in omega (arith, v .next, next-from (joinsIn b cs ts) (n + 1))
+    pub walking-less : s .ok ≡ true → count ts - s .next < count ts - n
+    walking-less o = let v = found (joinsIn b cs ts) (w .l) k n (w .long) y q o in omega (arith, v .next, next-from (joinsIn b cs ts) (n + 1))

@@ -14,7 +14,7 @@ use Rattle.units.specs.Words.{unitUnder, readAs}
 use Rattle.units.specs.declared.Word.{Word}
 use Rattle.units.specs.declared.Word.the-variants.{Numeral as UnitNumeral, Keyed, Identifier, Symbolic, Unreadable, TooBig}
 use Rattle.token_table.specs.Table.{kindIn, contentIn, lexOfKind, startIn, endIn}
-use Rattle.token_table.proofs.PartLaws.{content-part}
+use Rattle.token_table.proofs.ContentLaws.{cut-is}
 use Rattle.read_joins.specs.Joins.{orText, unitIn, joinsIn, count}
 use Rattle.read_joins.specs.Answers.{endAnswer, endAt, unitEnd, bothEnds, stepEnd}
 use Rattle.read_joins.specs.declared.End.{End}
@@ -46,7 +46,7 @@ module _ (b : ℕ) (cs ts : List ℕ) (n : ℕ) where
       → u ≡ unitUnder b (take (to - from) (drop from cs)) → r ≡ unitEnd u → r ≡ endAt (joinsIn b cs ts) n
   unfolding endAt
   end-at-word c h e g f t w q =
-      rw (q, w, f, t, content-part cs (getD ts (n + n) 0), unit-in b cs ts n (rw c at h)) (sym (end-word b cs (getD ts (n + n) 0) (sym e ∙ g)))
+      rw (q, w, cut-is cs (getD ts (n + n) 0) f t, unit-in b cs ts n (rw c at h)) (sym (end-word b cs (getD ts (n + n) 0) (sym e ∙ g)))
 
   pub end-at-other : {m k : ℕ} → m ≡ count ts → n < m → k ≡ kindIn (getD ts (n + n) 0) → (k ≡ 10 → ⊥) → Other ≡ endAt (joinsIn b cs ts) n
   unfolding endAt

@@ -1,9 +1,12 @@
 -- The loops and tests of an element read the separators' kinds, and these are the joined units' own.
-use Prim.Native.Nat.{ℕ, zero, suc, _+_, _-_, _/_, _<_}
+use Prim.Native.Nat.{ℕ, zero, suc, _+_, _-_, _*_, _/_, _^_, _<_}
 use mathlib.Core.Path.{_≡_, sym, _∙_}
 use mathlib.Core.Bool.{Bool, true, false, false≢true}
 use mathlib.Core.List.{List, []}
 use native.Mathlib.Omega.{arith}
+use mir.Syntax.{w64}
+use mir.Val.{Fits}
+use lib.ListN.{length}
 use Rattle.rules.specs.Refusals.{groupBroken}
 use Rattle.read_joins.specs.Joins.{joinsIn, kindAt, dashesAt, count, sepKind, sepPlace, beginsKind}
 use Rattle.read_joins.specs.Answers.{ArgEnd, NoMore}
@@ -25,10 +28,17 @@ module _ (ts : List ℕ) (n m : ℕ) where
       let d = dash-end (joinsIn b cs ts) m (λ z. h (e ∙ sym (kind-is b cs ts m) ∙ z)) in
       omega (arith, q b cs)
 
-pub dash-room : (ts : List ℕ) (m : ℕ) {k : ℕ} → k ≡ sepKind ts m → k ≡ 5 → m < count ts
-dash-room ts m e h =
-    let i = dash-inside (joinsIn 0 [] ts) m (kind-is 0 [] ts m ∙ sym e ∙ h) in
-    omega (arith, joins-length 0 [] ts)
+module _ (ts : List ℕ) (m : ℕ) {k : ℕ} (e : k ≡ sepKind ts m) (h : k ≡ 5) where
+  dash-room : m < count ts
+  dash-room =
+      let i = dash-inside (joinsIn 0 [] ts) m (kind-is 0 [] ts m ∙ sym e ∙ h) in
+      omega (arith, joins-length 0 [] ts)
+
+  pub dash-fits : length ts * 8 < 2 ^ 63 → Fits w64 (m + 1)
+  dash-fits g = omega (arith, dash-room)
+
+  pub dash-less : count ts - (m + 1) < count ts - m
+  dash-less = omega (arith, dash-room)
 
 -- ---- the separator before the n-th unit
 

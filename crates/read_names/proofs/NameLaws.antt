@@ -1,6 +1,6 @@
 -- Keys and names are worked out piece by piece, and the places of a table one behind the other.
 use Prim.Native.Nat.{ℕ, suc, _+_, _-_, _≤_, _<_}
-use mathlib.Core.Path.{_≡_, refl, sym, ap, _∙_, subst}
+use mathlib.Core.Path.{_≡_, refl, sym, ap, ap₂, _∙_, subst}
 use mathlib.Core.Bool.{Bool, true, false, _||_}
 use mathlib.Core.List.{List, [], _∷_, _++_, append-assoc}
 use native.Mathlib.Numerals.{add-one}
@@ -13,14 +13,25 @@ use Rattle.laws.specs.Cases.{byBool}
 use Rattle.laws.specs.Lists.{any, eqL}
 use Rattle.rules.specs.Commands.{Name, sameName}
 use Rattle.rules.specs.Tokens.{comma, equals, sepCode}
-use Rattle.token_table.specs.Table.{kindIn, contentIn}
+use Rattle.token_table.specs.Table.{kindIn, contentIn, startIn, endIn}
 use Rattle.token_table.specs.Parts.{before, wordsIn}
+use Rattle.token_table.proofs.ContentLaws.{cut-is}
 use Rattle.token_table.proofs.WordLaws.{words-next}
 use Rattle.marks.specs.Marks.{keyOf, marked, added}
 use Rattle.marks.specs.declared.Marks.{Marks}
 use Rattle.marks.proofs.MarkLaws.{added-marked}
 use Rattle.marks.proofs.MetLaws.{not-met, still-marked}
 use Rattle.read_names.specs.Names.{nameKey, nameIn, NamesOf, none, more, Stands, Known}
+
+-- ---- what is cut out of the contents
+
+pub key-cut : (k : ℕ) (cs : List ℕ) (t : ℕ) {from to r : ℕ} → from ≡ startIn t (length cs) → to ≡ endIn t (length cs) → r ≡ keyOf k (take (to - from) (drop from cs))
+    → r ≡ keyOf k (contentIn cs t)
+key-cut k cs t f o q = q ∙ ap (keyOf k) (cut-is cs t f o)
+
+pub same-cut : (cs : List ℕ) (t u : ℕ) {from to from2 to2 : ℕ} {r : Bool} → from ≡ startIn t (length cs) → to ≡ endIn t (length cs) → from2 ≡ startIn u (length cs)
+    → to2 ≡ endIn u (length cs) → r ≡ eqL (take (to - from) (drop from cs)) (take (to2 - from2) (drop from2 cs)) → r ≡ eqL (contentIn cs t) (contentIn cs u)
+same-cut cs t u f o f2 o2 q = q ∙ ap₂ eqL (cut-is cs t f o) (cut-is cs u f2 o2)
 
 -- ---- the key of a name
 
@@ -103,7 +114,11 @@ pub record Walked (cs ts : List ℕ) (nm : Name) (ns : List Name) (i : ℕ) : Ty
   pub are : NamesOf cs (drop i ts) left
   pub same : any (sameName nm) ns ≡ any (sameName nm) left
 
-pub walk-start : (cs ts : List ℕ) (nm : Name) (ns : List Name) → NamesOf cs ts ns → Walked cs ts nm ns 0
+-- the same, whatever names stand in the table
+abbrev pub Walking : List ℕ → List ℕ → Name → ℕ → Type 0
+Walking cs ts nm i = (ns : List Name) → NamesOf cs ts ns → Walked cs ts nm ns i
+
+pub walk-start : (cs ts : List ℕ) (nm : Name) → Walking cs ts nm 0
 walk-start cs ts nm ns m = record { left = ns; are = m; same = refl }
 
 module _ {cs ts : List ℕ} {nm : Name} {ns : List Name} {i : ℕ} (w : Walked cs ts nm ns i) where
@@ -118,22 +133,23 @@ module _ {cs ts : List ℕ} {nm : Name} {ns : List Name} {i : ℕ} (w : Walked c
       let z : t ≡ sameName nm (nameIn cs (drop i ts)) = s ∙ ap (λ (x : ℕ). sameName nm (wordsIn true cs (take x (drop i ts)))) n in
       w .same ∙ ap (any (sameName nm)) ((here h) .are) ∙ ap (λ (b : Bool). b || any (sameName nm) ((here h) .rest)) (sym z)
 
-  pub walk-found : {q : ℕ} {t : Bool} → i < length ts → q ≡ i + before (sepCode equals) (drop i ts)
-      → t ≡ sameName nm (wordsIn true cs (take (q - i) (drop i ts))) → t ≡ true → true ≡ any (sameName nm) ns
-  walk-found h e s y = sym (turn h e s ∙ rw y)
+module _ (cs ts : List ℕ) (nm : Name) (i : ℕ) (w : Walking cs ts nm i) where
+  module _ {q : ℕ} {t : Bool} (h : i < length ts) (e : q ≡ i + before (sepCode equals) (drop i ts)) (s : t ≡ sameName nm (wordsIn true cs (take (q - i) (drop i ts)))) where
+    pub walk-found : t ≡ true → Stands cs ts nm true
+    walk-found y ns m = sym (turn (w ns m) h e s ∙ rw y)
 
-  pub walk-more : {q k : ℕ} {t : Bool} → i < length ts → q ≡ i + before (sepCode equals) (drop i ts)
-      → t ≡ sameName nm (wordsIn true cs (take (q - i) (drop i ts))) → t ≡ false → k ≡ i + before (sepCode comma) (drop i ts) → Walked cs ts nm ns (k + 1)
-  walk-more {q} {k} h e s y z =
-      let n : i + (before (sepCode comma) (drop i ts) + 1) ≡ k + 1 = omega arith in
-      record {
-        left = (here h) .rest;
-        are = subst (λ (l : List ℕ). NamesOf cs l ((here h) .rest)) (drop-drop (before (sepCode comma) (drop i ts) + 1) i ts ∙ ap (λ (x : ℕ). drop x ts) n) ((here h) .behind);
-        same = turn h e s ∙ rw y;
-      }
+    pub walk-more : {k : ℕ} → t ≡ false → k ≡ i + before (sepCode comma) (drop i ts) → Walking cs ts nm (k + 1)
+    walk-more {k} y z ns m =
+        let p = here (w ns m) h in
+        let n : i + (before (sepCode comma) (drop i ts) + 1) ≡ k + 1 = omega arith in
+        record {
+          left = p .rest;
+          are = subst (λ (l : List ℕ). NamesOf cs l (p .rest)) (drop-drop (before (sepCode comma) (drop i ts) + 1) i ts ∙ ap (λ (x : ℕ). drop x ts) n) (p .behind);
+          same = turn (w ns m) h e s ∙ rw y;
+        }
 
-  pub walk-end : length ts ≤ i → false ≡ any (sameName nm) ns
-  walk-end h = sym (w .same ∙ rw (no-names cs (drop i ts) (w .left) (w .are) (omega (arith, length-drop i ts))))
+  pub walk-end : length ts ≤ i → Stands cs ts nm false
+  walk-end h ns m = let v = w ns m in sym (v .same ∙ rw (no-names cs (drop i ts) (v .left) (v .are) (omega (arith, length-drop i ts))))
 
 -- ---- marks
 

@@ -19,7 +19,7 @@ use Rattle.token_table.specs.Table.{kindIn, placeIn, contentIn, lexOfKind, toke
 use Rattle.token_table.specs.declared.Verdict.{Verdict}
 use Rattle.token_table.specs.declared.Verdict.the-variants.{Fine, Refused}
 use Rattle.token_table.proofs.AltLaws.{verdict-map, sep-code}
-use Rattle.token_table.proofs.PartLaws.{content-part}
+use Rattle.token_table.proofs.ContentLaws.{cut-is}
 use Rattle.read_pieces.specs.Pieces.{test, pieceTest, dashTest, piecesAt}
 
 pub index-none : (w : List ℕ) → length w ≡ 0 → false ≡ isIndexNumber w
@@ -45,7 +45,7 @@ module _ (x : Bool) (cs : List ℕ) (t : ℕ) where
   pub piece-word : {k from to : ℕ} {r : Bool} → k ≡ kindIn t → k ≡ 10 → from ≡ startIn t (length cs) → to ≡ endIn t (length cs)
       → r ≡ test x (take (to - from) (drop from cs)) → r ≡ pieceTest x cs t
   unfolding pieceTest
-  piece-word e g f o q = rw (q, f, o, content-part cs t, ← e, g)
+  piece-word e g f o q = rw (q, cut-is cs t f o, ← e, g)
 
   pub piece-other : {k : ℕ} → k ≡ kindIn t → (k ≡ 10 → ⊥) → false ≡ pieceTest x cs t
   unfolding pieceTest
@@ -115,11 +115,6 @@ module _ (nr : ℕ) (nm : Bool) (cs ts : List ℕ) (e i : ℕ) where
   unfolding piecesAt
   dash-more x left q h w g y = q ∙ rw (w, next ts i h, dash-yes left nr x nm cs (getD ts i 0) (drop (i + 1) ts) e (sym g ∙ y))
 
-  pub dash-left : (left : ℕ) {f : Bool} → f ≡ dashTest left (getD ts i 0) → f ≡ true → 0 < left
-  unfolding dashTest
-  dash-left zero g y = absurd (false≢true (sym g ∙ y))
-  dash-left (suc n) g y = omega arith
-
   pub dash-stop : (x : Bool) (left : ℕ) {f want : Bool} {p : ℕ} {r : Verdict} → r ≡ piecesAt nr x nm left want cs (drop i ts) e → i < length ts
       → want ≡ false → f ≡ dashTest left (getD ts i 0) → f ≡ false
       → p ≡ placeIn (getD ts i 0) → Refused nr p ≡ r
@@ -133,3 +128,8 @@ module _ (nr : ℕ) (nm : Bool) (cs ts : List ℕ) (e i : ℕ) where
   pub pieces-fine : (x : Bool) (left : ℕ) {want : Bool} {r : Verdict} → r ≡ piecesAt nr x nm left want cs (drop i ts) e → length ts ≤ i → want ≡ false → Fine ≡ r
   unfolding piecesAt
   pieces-fine x left q h w = sym (q ∙ rw (w, drop-of-length-le ts h))
+
+pub dash-left : (left t : ℕ) {f : Bool} → f ≡ dashTest left t → f ≡ true → 0 < left
+unfolding dashTest
+dash-left zero t g y = absurd (false≢true (sym g ∙ y))
+dash-left (suc n) t g y = omega arith

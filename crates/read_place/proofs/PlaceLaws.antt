@@ -1,25 +1,29 @@
 -- A place in code is the rule's place: the tokens before and behind `=` are parts of the table, and the bytes of its fields add up.
 use Prim.Native.Nat.{ℕ, zero, suc, _+_, _-_, _≤_, _<_}
 use mathlib.Core.Path.{_≡_, refl, sym, ap, _∙_, subst}
-use mathlib.Core.Bool.{Bool, true, false, not, Bool·beq, false≢true}
+use mathlib.Core.Bool.{Bool, true, false, Bool·beq, false≢true}
 use mathlib.Core.List.{List, [], _∷_, _++_, map}
 use native.Mathlib.Omega.{arith}
-use borrow.Author.Tests.{leb-true, ltb-true, le-ltb, lt-ltb}
-use lib.Dec.{leb, ltb}
-use lib.ListN.{length, getD, take, drop, length-append, length-drop}
-use lib.Seq.{take-all, take-nil}
+use borrow.Author.Tests.{ltb-true, le-ltb, lt-ltb}
+use mir.Syntax.{w32}
+use mir.Val.{Fits}
+use lib.ListN.{length, getD, take, drop, length-append}
+use lib.Seq.{take-nil}
+use Rattle.rules.proofs.ReadSteps.{named-read, place-read, value-read}
+use Rattle.laws.specs.Over.{part-from}
 use Rattle.laws.specs.Lists.{any, isNil}
 use Rattle.rules.specs.Commands.{Name, sameName, Element, Place, place, placeName, sum, terms, valueCount, first, seg, cutAt, isCut, pieces, isPiece}
-use Rattle.rules.specs.Groups.{unitAfter, alternate, readUnits, readValue, elements, groupsOf, collect}
+use Rattle.rules.specs.Groups.{readValue}
 use Rattle.rules.specs.Reading.{Placed, placed, unplaced, readPosition, readNamed, readPlace}
 use Rattle.rules.specs.Records.{Field, field, bytesOf, many, elementFields}
 use Rattle.rules.specs.Refusals.{ok, bad}
-use Rattle.rules.specs.Tokens.{amp, equals, sepCode}
+use Rattle.rules.specs.Tokens.{equals, sepCode}
 use Rattle.rules.specs.Units.{Base, plain, rD, letter, isIdentifier}
+use Rattle.rules.proofs.FieldLaws.{bytes-append}
 use Rattle.rules.proofs.ReadSound.{value-some}
-use Rattle.rules.proofs.ResultLaws.{byRes, ok-inj, ok≢bad, bind-ok, map-ok, guard-ok}
+use Rattle.rules.proofs.ResultLaws.{byRes, ok≢bad}
 use Rattle.token_table.specs.Table.{placeIn, tokensIn}
-use Rattle.token_table.proofs.VerdictLaws.{verdict-ok, verdict-bad}
+use Rattle.token_table.proofs.AltLaws.{verdict-ok, verdict-bad}
 use Rattle.token_table.specs.declared.Verdict.{Verdict}
 use Rattle.token_table.specs.declared.Verdict.the-variants.{Fine as Good, Refused as Wrong}
 use Rattle.token_table.specs.Parts.{before, placeOr, wordsIn, wordsSize, capped}
@@ -31,9 +35,8 @@ use Rattle.read_pieces.specs.Pieces.{piecesAt}
 use Rattle.read_elements.specs.Walk.{valueAnswer}
 use Rattle.read_elements.specs.declared.Value.{Value}
 use Rattle.read_elements.specs.declared.Value.the-variants.{Elements, Refused as RefusedValue}
-use Rattle.read_value.specs.Passes.{Faultless}
+use Rattle.read_value.specs.Passes.{Faultless, Reads}
 use Rattle.value_fields.specs.Measure.{ValueLen}
-use Rattle.value_fields.proofs.BytesLaws.{bytes-append}
 use Rattle.read_place.specs.Places.{valueSize, placeSize, valueRead, placeRead, Sized, cutIn, ReadsNamed, KnownIf}
 use Rattle.read_place.specs.declared.PlaceRead.{PlaceRead}
 use Rattle.read_place.specs.declared.PlaceRead.the-variants.{Fine, Refused}
@@ -51,20 +54,12 @@ pub sized : (ts cs : List ℕ) (l h : ℕ) {n m r : ℕ} → ValueLen ts cs l n 
 sized ts cs l h {n} {m} {r} w q z b g e v y = rw (z, q, w b e v g y) (cap-right h (valueSize v))
 
 -- a value that is read: its tokens and its number of arguments
-pub record HasRead (ts cs : List ℕ) (b : Base) (e a : ℕ) : Type 0 where
-  pub v : List Element
-  pub is : readValue b (tokensIn cs ts) e ≡ ok v
-  pub some : 0 < length ts
-  pub args : a ≡ valueCount v
-  pub few : a ≤ 4096
-
-few : (b : Base) (ts : List ℕ) (cs : List ℕ) (e : ℕ) (v : List Element) → readValue b (tokensIn cs ts) e ≡ ok v → valueCount v ≤ 4096
-few b ts cs e v h =
-    bind-ok (alternate (unitAfter amp 0) (tokensIn cs ts) e) _ v h
-    (λ js a h1. bind-ok (readUnits b js) _ v h1
-    (λ is c h2. bind-ok (elements (groupsOf (collect is))) _ v h2
-    (λ v′ d h3. guard-ok {C = valueCount v ≤ 4096} (leb (valueCount v′) 4096) 16 (first (tokensIn cs ts) e) (λ _. ok v′) v h3
-    (λ t h4. rw (← (ok-inj h4)) (leb-true (valueCount v′) 4096 t)))))
+record HasRead (ts cs : List ℕ) (b : Base) (e a : ℕ) : Type 0 where
+  v : List Element
+  is : readValue b (tokensIn cs ts) e ≡ ok v
+  some : 0 < length ts
+  args : a ≡ valueCount v
+  few : a ≤ 4096
 
 some-token : (b : Base) (ts cs : List ℕ) (e : ℕ) (v : List Element) → readValue b (tokensIn cs ts) e ≡ ok v → 0 < length ts
 some-token b [] cs e v h = ok≢bad h
@@ -74,41 +69,47 @@ count-is : (v : List Element) → isNil v ≡ false → sum (map terms v) ≡ va
 count-is [] h = absurd (false≢true (sym h))
 count-is (x ∷ v) h = refl
 
-pub has-read : (ts cs : List ℕ) (b : Base) (e : ℕ) (k a : ℕ) {r : Value} → r ≡ valueAnswer (readValue b (tokensIn cs ts) e) → r ≡ Elements k a → HasRead ts cs b e a
-has-read ts cs b e k a q g =
-    byRes (readValue b (tokensIn cs ts) e)
-    (λ v y.
-    let z : Elements k a ≡ valueAnswer (ok v) = sym g ∙ q ∙ ap valueAnswer y in
-    let s : a ≡ sum (map terms v) = cc in
-    let n : a ≡ valueCount v = s ∙ count-is v (value-some b (tokensIn cs ts) e v y) in
-    record { v = v; is = y; some = some-token b ts cs e v y; args = n; few = omega (arith, few b ts cs e v y) })
-    (λ n p y.
-    let w : Elements k a ≡ valueAnswer (bad n p) = sym g ∙ q ∙ ap valueAnswer y in
-    let z : _≡_ {A = ℕ} 0 1 = cc in absurd (omega arith))
-
-pub faultless : (ts cs : List ℕ) (b : Base) (e a l : ℕ) → HasRead ts cs b e a → l ≡ letter b → Faultless ts cs l
-faultless ts cs b e a l h g = record { base = b; own = g; end = e; es = h .v; is = h .is }
-
-pub value-wrong : (ts cs : List ℕ) (b : Base) (h g e n p : ℕ) {r : Value} → r ≡ valueAnswer (readValue b (tokensIn cs ts) e) → r ≡ RefusedValue n p
-    → Refused n p ≡ valueRead h g (placeOr ts e) (readValue b (tokensIn cs ts) e)
-value-wrong ts cs b h k e n p q g =
-    byRes (readValue b (tokensIn cs ts) e)
-    (λ v y.
-    let w : RefusedValue n p ≡ valueAnswer (ok v) = sym g ∙ q ∙ ap valueAnswer y in
-    let z : _≡_ {A = ℕ} 0 1 = cc in absurd (omega arith))
-    (λ m o y.
-    let w : RefusedValue n p ≡ RefusedValue m o = sym g ∙ q ∙ ap valueAnswer y in
-    let i : n ≡ m = cc in let j : p ≡ o = cc in
-    rw (y, i, j))
-
-pub value-fine : (ts cs : List ℕ) (l : ℕ) (b : Base) (h k e a : ℕ) {p z : ℕ} → HasRead ts cs b e a → l ≡ letter b → p ≡ placeIn (getD ts 0 0) → Sized ts cs l h z
+fine-is : (ts cs : List ℕ) (l : ℕ) (b : Base) (h k e a : ℕ) {p z : ℕ} → HasRead ts cs b e a → l ≡ letter b → p ≡ placeIn (getD ts 0 0) → Sized ts cs l h z
     → Fine a p z k ≡ valueRead h k (placeOr ts e) (readValue b (tokensIn cs ts) e)
-value-fine ts cs l b h k e a {p} {z} g m q w =
-    rw (g .is, w b m e (g .v) (g .is), q, g .args) (ap (λ o. Fine (valueCount (g .v)) o (capped (h + valueSize (g .v))) k) (first-is ts e (g .some)))
-  where
-    first-is : (ts : List ℕ) (e : ℕ) → 0 < length ts → placeIn (getD ts 0 0) ≡ placeOr ts e
-    first-is [] e h = absurd (omega arith)
-    first-is (t ∷ ts) e h = refl
+fine-is [] cs l b h k e a g m q w = absurd (omega (arith, g .some))
+fine-is (t ∷ ts) cs l b h k e a g m q w = rw (g .is, w b m e (g .v) (g .is), q, g .args)
+
+module _ (ts cs : List ℕ) (b : Base) (e l : ℕ) {r : Value} (reads : Reads ts cs l e r) (own : l ≡ letter b) where
+  module _ (k a : ℕ) (g : r ≡ Elements k a) where
+    has-read : HasRead ts cs b e a
+    has-read =
+        byRes (readValue b (tokensIn cs ts) e)
+        (λ v y.
+        let z : Elements k a ≡ valueAnswer (ok v) = sym g ∙ reads b own ∙ ap valueAnswer y in
+        let s : a ≡ sum (map terms v) = cc in
+        let n : a ≡ valueCount v = s ∙ count-is v (value-some b (tokensIn cs ts) e v y) in
+        record { v = v; is = y; some = some-token b ts cs e v y; args = n; few = omega (arith, value-read b (tokensIn cs ts) e v y .few) })
+        (λ n p y.
+        let w : Elements k a ≡ valueAnswer (bad n p) = sym g ∙ reads b own ∙ ap valueAnswer y in
+        let z : _≡_ {A = ℕ} 0 1 = cc in absurd (omega arith))
+
+    pub args-fit : Fits w32 a
+    args-fit = omega (arith, has-read)
+
+    pub tokens-some : 0 < length ts
+    tokens-some = has-read .some
+
+    pub faultless : Faultless ts cs l
+    faultless = record { base = b; own = own; end = e; es = has-read .v; is = has-read .is }
+
+    pub value-fine : (h key : ℕ) {p z : ℕ} → p ≡ placeIn (getD ts 0 0) → Sized ts cs l h z → Fine a p z key ≡ valueRead h key (placeOr ts e) (readValue b (tokensIn cs ts) e)
+    value-fine h key q w = fine-is ts cs l b h key e a has-read own q w
+
+  pub value-wrong : (h key n p : ℕ) → r ≡ RefusedValue n p → Refused n p ≡ valueRead h key (placeOr ts e) (readValue b (tokensIn cs ts) e)
+  value-wrong h key n p g =
+      byRes (readValue b (tokensIn cs ts) e)
+      (λ v y.
+      let w : RefusedValue n p ≡ valueAnswer (ok v) = sym g ∙ reads b own ∙ ap valueAnswer y in
+      let z : _≡_ {A = ℕ} 0 1 = cc in absurd (omega arith))
+      (λ m o y.
+      let w : RefusedValue n p ≡ RefusedValue m o = sym g ∙ reads b own ∙ ap valueAnswer y in
+      let i : n ≡ m = cc in let j : p ≡ o = cc in
+      rw (y, i, j))
 
 -- ---- the bytes of a place's fields
 
@@ -139,9 +140,6 @@ position-some (t ∷ ts) cs b e h q =
     (λ n p y. rw y)
 
 -- ---- by name
-
-pub part-from : (ts : List ℕ) (q : ℕ) → take (length ts - q) (drop q ts) ≡ drop q ts
-part-from ts q = take-all (length ts - q) (drop q ts) (simp length-drop (omega arith))
 
 -- the name's first token is the place's
 name-first : (cs ts : List ℕ) (q o e : ℕ) (ws : Name) → pieces 10 isIdentifier isPiece 3 true (tokensIn cs (take q ts)) o ≡ ok ws
@@ -192,14 +190,14 @@ module _ (us ts cs : List ℕ) (b : Base) (q : ℕ) (m : Marks) (e : ℕ) (ns : 
         g ∙ rw (named .is, met) (ap (λ (l : ℕ). Refused 21 l) (named .begins))
 
     pub named-fine : {s h : ℕ} {r : PlaceRead} → t ≡ false → s ≡ capped (wordsSize (wordsIn true cs (take q ts))) → h ≡ capped (4 + s)
-        → r ≡ valueRead h k (placeOr (drop (q + 1) ts) e) (readValue b (tokensIn cs (drop (q + 1) ts)) e)
+        → (let xs = take (length ts - (q + 1)) (drop (q + 1) ts) in r ≡ valueRead h k (placeOr xs e) (readValue b (tokensIn cs xs) e))
         → r ≡ placeRead (readNamed b ns (cutIn cs ts q) e)
     named-fine {s} {h} {r} f d z g =
         let xs = drop (q + 1) ts in
         let ws = named .ws in
         let room : h ≡ capped (4 + wordsSize ws) = rw (z, d, named .words) (cap-right 4 (wordsSize (wordsIn true cs (take q ts)))) in
         let new : any (sameName ws) ns ≡ false = named .twice ∙ f in
-        g ∙ byRes (readValue b (tokensIn cs xs) e)
+        (rw (part-from ts (q + 1)) at g) ∙ byRes (readValue b (tokensIn cs xs) e)
         (λ v y. rw (named .is, new, y, first-place cs xs e, place-size b ws v, room, cap-cap (4 + wordsSize ws) (valueSize v), named .key))
         (λ n p y. rw (named .is, new, y))
 
@@ -240,20 +238,9 @@ name-read ts cs bs n e ns p x h =
     let q : ℕ = before (sepCode equals) ts in
     let f : q ≡ 0 + before (sepCode equals) (drop 0 ts) = omega arith in
     let b : Base = getD bs n (plain rD) in
-    guard-ok (ltb n 32) 15 (first (tokensIn cs ts) e) _ (placed p x) h
-    (λ y h1.
-    guard-ok (Bool·beq true (isCut (cutAt equals (tokensIn cs ts)))) 9 (first (tokensIn cs ts) e) _ (placed p x) h1
-    (λ z h2.
-    let l : q < length ts = ltb-true q (length ts) (sym (is-cut equals cs ts f) ∙ agreed (isCut (cutAt equals (tokensIn cs ts))) z) in
-    let nm = tokensIn cs (take q ts) in
+    let r = place-read true bs n ns (tokensIn cs ts) e (placed p x) h in
+    let l : q < length ts = ltb-true q (length ts) (sym (is-cut equals cs ts f) ∙ agreed (isCut (cutAt equals (tokensIn cs ts))) (r .agrees)) in
     let o : ℕ = placeIn (getD ts q 0) in
-    let us = tokensIn cs (drop (q + 1) ts) in
-    bind-ok (pieces 10 isIdentifier isPiece 3 true nm o) _ (placed p x) (rw (cut-at equals cs ts f l) at h2)
-    (λ ws a h3.
-    guard-ok (not (any (sameName ws) ns)) 21 (first nm o) _ (placed p x) h3
-    (λ u h4.
-    map-ok (λ v. placed (first us e) (place b ws v)) (readValue b us e) (placed p x) h4
-    (λ v c r.
-    let w : placeName x ≡ ws = ap (λ (t : Placed). placeName (unplaced t)) (sym r) in
-    let i : placeName x ≡ nameIn cs ts = w ∙ pieces-words cs (take q ts) true 10 isIdentifier isPiece 3 o ws a in
-    record { inside = l; is = i })))))
+    let m = named-read b ns (tokensIn cs (take q ts)) o (tokensIn cs (drop (q + 1) ts)) e (placed p x) (rw (cut-at equals cs ts f l) at (r .read)) in
+    let w : placeName x ≡ m .name = ap (λ (t : Placed). placeName (unplaced t)) (sym (m .is)) in
+    record { inside = l; is = w ∙ pieces-words cs (take q ts) true 10 isIdentifier isPiece 3 o (m .name) (m .pieced) }

@@ -6,13 +6,14 @@ use mathlib.Core.List.{List, [], _∷_}
 use native.Mathlib.Omega.{arith}
 use lib.Dec.{leb}
 use lib.ListN.{length, getD}
+use Rattle.rules.proofs.ReadSteps.{value-read}
 use Rattle.laws.specs.Cases.{Always, byBool}
-use Rattle.rules.specs.Commands.{Element, valueCount, first}
+use Rattle.rules.specs.Commands.{Element}
 use Rattle.rules.specs.Groups.{Join, join, alternate, unitAfter, joiner, readUnits, readValue, elements, groupsOf, collect}
-use Rattle.rules.specs.Refusals.{ok, mapR, tooManyOrders, mostArguments}
+use Rattle.rules.specs.Refusals.{ok, mapR}
 use Rattle.rules.specs.Tokens.{Lex, Sep, amp}
 use Rattle.rules.specs.Units.{Base, letter, Unit, readUnit}
-use Rattle.rules.proofs.ResultLaws.{ok≢bad, map-ok, bind-ok, guard-ok}
+use Rattle.rules.proofs.ResultLaws.{ok≢bad, map-ok, bind-ok}
 use Rattle.token_table.specs.Table.{kindIn, placeIn, contentIn, lexOfKind, sepOf, tokensIn, wordKind}
 use Rattle.token_table.proofs.AltLaws.{unit-kind, joiner-yes, joiner-none, wanted}
 use Rattle.read_joins.specs.Joins.{unitIn, joinsIn, count}
@@ -71,14 +72,10 @@ some-token cs (t ∷ ts) e js h = omega arith
 
 pub sound : (b : Base) (ts cs : List ℕ) (e : ℕ) (es : List Element) → readValue b (tokensIn cs ts) e ≡ ok es → Sound b ts cs es
 sound b ts cs e es h =
-    bind-ok (alternate (unitAfter amp 0) (tokensIn cs ts) e) _ es h
-    (λ js a h2. bind-ok (readUnits b js) _ es h2
-    (λ is r h3. bind-ok (elements (groupsOf (collect is))) _ es h3
-    (λ v g h4. guard-ok (leb (valueCount v) mostArguments) tooManyOrders (first (tokensIn cs ts) e) (λ _. ok v) es h4
-    (λ y h5.
-    let z : is ≡ joinsIn (letter b) cs ts = joins-are b cs ts true amp 0 e js is a r ∙ joins-all (letter b) cs ts in
+    let r = value-read b (tokensIn cs ts) e es h in
+    let z : r .is ≡ joinsIn (letter b) cs ts = joins-are b cs ts true amp 0 e (r .js) (r .is) (r .turns) (r .units) ∙ joins-all (letter b) cs ts in
     record {
-      some = some-token cs ts e js a;
-      groups = rw (← z) (g ∙ h5);
-      units = λ n l. unit-at b cs ts n (units-read b cs ts true amp 0 e js is a r) l;
-    }))))
+      some = some-token cs ts e (r .js) (r .turns);
+      groups = rw (← z) (r .grouped);
+      units = λ n l. unit-at b cs ts n (units-read b cs ts true amp 0 e (r .js) (r .is) (r .turns) (r .units)) l;
+    }

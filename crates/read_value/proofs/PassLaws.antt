@@ -20,11 +20,11 @@ use Rattle.units.specs.declared.Word.{Word}
 use Rattle.units.specs.declared.Word.the-variants.{Numeral, Keyed, Identifier, Symbolic, Unreadable, TooBig}
 use Rattle.units.proofs.WordLaws.{unit-is}
 use Rattle.token_table.specs.Table.{kindIn, placeIn, contentIn, lexOfKind, sepOf, tokensIn, verdict, Alternates, startIn, endIn}
-use Rattle.token_table.proofs.VerdictLaws.{verdict-ok, verdict-bad}
 use Rattle.token_table.specs.declared.Verdict.{Verdict}
 use Rattle.token_table.specs.declared.Verdict.the-variants.{Fine, Refused}
-use Rattle.token_table.proofs.AltLaws.{unit-kind, joiner-yes, joiner-none, wanted}
-use Rattle.token_table.proofs.PartLaws.{content-part}
+use Rattle.token_table.proofs.FindLaws.{first-place, place-in}
+use Rattle.token_table.proofs.AltLaws.{unit-kind, joiner-yes, joiner-none, wanted, verdict-ok, verdict-bad}
+use Rattle.token_table.proofs.ContentLaws.{cut-is}
 use Rattle.read_joins.specs.Joins.{orText, unitIn, joinSep, joined, joinsIn}
 use Rattle.read_elements.specs.Walk.{valueAnswer}
 use Rattle.read_elements.specs.declared.Value.{Value}
@@ -148,7 +148,7 @@ module _ (b : ℕ) (cs : List ℕ) (t : ℕ) where
   pub word-is : {k p from to : ℕ} {u : Word} {r : Verdict} → k ≡ kindIn t → k ≡ 10 → from ≡ startIn t (length cs) → to ≡ endIn t (length cs)
       → u ≡ unitUnder b (take (to - from) (drop from cs)) → p ≡ placeIn t → r ≡ wordVerdict p u → r ≡ unitVerdict b cs t
   unfolding unitVerdict
-  word-is e g f o w v q = rw (q, w, f, o, content-part cs t, v, ← e, g)
+  word-is e g f o w v q = rw (q, w, cut-is cs t f o, v, ← e, g)
 
   pub word-none : {k : ℕ} → k ≡ kindIn t → (k ≡ 10 → ⊥) → Fine ≡ unitVerdict b cs t
   unfolding unitVerdict
@@ -169,13 +169,9 @@ unfolding joinsIn kindIn placeIn
 joins-all l cs [] = refl
 joins-all l cs (t ∷ ts) = refl
 
-first-place : (cs ts : List ℕ) (e : ℕ) → 0 < length ts → first (tokensIn cs ts) e ≡ placeIn (getD ts 0 0)
-first-place cs [] e h = absurd (omega arith)
-first-place cs (t ∷ ts) e h = refl
-
-pub some-token : (ts : List ℕ) (e : ℕ) → Alternates ts e Fine → 0 < length ts
-some-token [] e a = let z = a [] in let o : _≡_ {A = ℕ} 0 1 = cc in absurd (omega arith)
-some-token (t ∷ ts) e a = omega arith
+pub some-token : (ts : List ℕ) (e : ℕ) {v : Verdict} → Alternates ts e v → v ≡ Fine → 0 < length ts
+some-token [] e a h = let z = a [] in let o : _≡_ {A = ℕ} 0 1 = cc in absurd (omega arith)
+some-token (t ∷ ts) e a h = omega arith
 
 pub read-refused : (ts cs : List ℕ) (l e n p : ℕ) {v : Verdict} → Alternates ts e v → v ≡ Refused n p → Reads ts cs l e (RefusedValue n p)
 read-refused ts cs l e n p a h b m = rw (verdict-bad (alternate (unitAfter amp 0) (tokensIn cs ts) e) n p (sym (a cs) ∙ h))
@@ -183,9 +179,8 @@ read-refused ts cs l e n p a h b m = rw (verdict-bad (alternate (unitAfter amp 0
 pub read-fine : (ts cs : List ℕ) (l e : ℕ) {v : Verdict} {r : Value} → Alternates ts e v → v ≡ Fine → r ≡ groupedAnswer l cs ts → Reads ts cs l e r
 unfolding groupedAnswer
 read-fine ts cs l e {v} {r} a h q b m =
-    let w : Alternates ts e Fine = λ c. sym h ∙ a c in
-    let p0 = first-place cs ts e (some-token ts e w) in
-    verdict-ok (alternate (unitAfter amp 0) (tokensIn cs ts) e) (sym (w cs))
+    let p0 = first-place cs ts e ∙ place-in ts 0 e (some-token ts e a h) in
+    verdict-ok (alternate (unitAfter amp 0) (tokensIn cs ts) e) (sym (a cs) ∙ h)
     (λ js y.
     let uv = units-verdict b cs ts true amp 0 e js y in
     byRes (readUnits b js)

@@ -1,3 +1,1 @@
-pub mod SizeLaws
-pub mod ScanLaws
 pub mod ReadLaws

@@ -1,5 +1,7 @@
 -- The reader's answer is the rule's: each step refuses as the rule does, and a record is written only where the rule reads a command that fits.
-use Prim.Native.Nat.{ℕ, _≤_, _<_}
+use mir.Syntax.{w32}
+use mir.Val.{Fits}
+use Prim.Native.Nat.{ℕ, _≤_, _<_, _^_}
 use mathlib.Core.Path.{_≡_, refl, sym, ap, _∙_, subst}
 use mathlib.Core.List.{List}
 use native.Mathlib.Omega.{arith}
@@ -12,8 +14,10 @@ use Rattle.rules.specs.Commands.{Command, cutAt}
 use Rattle.rules.specs.Reading.{readCut, readLetters, read}
 use Rattle.rules.specs.Records.{encode}
 use Rattle.rules.specs.Refusals.{Res, ok, bad, mapR}
-use Rattle.rules.specs.Tokens.{Token, semi, scan}
+use Rattle.rules.specs.Tokens.{semi, scan, idle, run, firstOff}
 use Rattle.rules.proofs.ReadSound.{cut-ok, cut-wf}
+use Rattle.rules.proofs.RecordBound.{record-bound}
+use Rattle.rules.proofs.RefusalPlaces.{Comes, Whatever, Before, bind-comes, comes-bad, off-comes, run-comes}
 use Rattle.rules.proofs.ResultLaws.{byRes}
 use Rattle.rules.proofs.ScanSound.{scan-ok}
 use Rattle.token_table.specs.Table.{tokensIn, verdict}
@@ -23,7 +27,7 @@ use Rattle.read_bases.specs.Bases.{basesIn}
 use Rattle.read_bases.proofs.BaseLaws.{letters-are}
 use Rattle.token_table.specs.Parts.{capped}
 use Rattle.token_table.proofs.WordLaws.{cap-small}
-use Rattle.token_table.proofs.VerdictLaws.{verdict-ok, verdict-bad}
+use Rattle.token_table.proofs.AltLaws.{verdict-ok, verdict-bad}
 use Rattle.read_command.specs.Blocks.{commandRead}
 use Rattle.read_command.specs.declared.Checked.{Checked}
 use Rattle.read_command.specs.declared.Checked.the-variants.{Fine as Right, Refused as Wrong}
@@ -32,7 +36,6 @@ use Rattle.scan.specs.declared.Filled.{Filled}
 use Rattle.scan.specs.declared.Filled.the-variants.{Done as Filling, Refused as NotFilled}
 use Rattle.scan.specs.Filled.{Holds, IsFilled}
 use Rattle.reader.specs.Reader.{TokensOf, commandOf, Records, RecordsText}
-use Rattle.reader.proofs.SizeLaws.{record-size}
 
 -- ---- results
 
@@ -53,58 +56,89 @@ module _ (ts cs ls : List ℕ) (n : ℕ) (old : List ℕ) where
       refused old r m p (rw (i, j) at y))
 
   -- a command that is right, and the bytes of its record
-  pub record IsRight (z : ℕ) : Type 0 where
-    pub c : Command
-    pub is : readCut (basesIn ls) n (cutAt semi (tokensIn cs ts)) ≡ ok c
-    pub size : z ≡ length (encode c)
+  record IsRight (z : ℕ) : Type 0 where
+    c : Command
+    is : readCut (basesIn ls) n (cutAt semi (tokensIn cs ts)) ≡ ok c
+    size : z ≡ length (encode c)
 
-  pub tokens-right : (z : ℕ) {x : Checked} → TokensOf ts cs → x ≡ commandRead (readCut (basesIn ls) n (cutAt semi (tokensIn cs ts))) → x ≡ Right z → IsRight z
-  tokens-right z w q h =
-      let t = tokensIn cs ts in
-      byRes (readCut (basesIn ls) n (cutAt semi t))
-      (λ c y.
-      let u : Right z ≡ Right (capped (length (encode c))) = sym h ∙ q ∙ ap commandRead y in
-      let v : z ≡ capped (length (encode c)) = cc in
-      let k = record-size c (cut-wf (basesIn ls) n (cutAt semi t) c (cut-ok semi t (scan-ok (w .text) t (w .is))) y) in
-      record { c = c; is = y; size = v ∙ cap-small (length (encode c)) (omega arith) })
-      (λ k o y. let u : Right z ≡ Wrong k o = sym h ∙ q ∙ ap commandRead y in
-      let w : _≡_ {A = ℕ} 0 1 = cc in absurd (omega arith))
+  short-is : (z : ℕ) (w : IsRight z) → length old < z → Records ts cs ls n old (Refused 17 z) old
+  short-is z w h =
+      let g = lt-leb (length (encode (w .c))) (length old) (omega (arith, w .size)) in
+      record { answers = rw (w .is, g, w .size); holds = rw (w .is, g) }
 
-  module _ (z : ℕ) (w : IsRight z) where
+  done-is : (z : ℕ) (w : IsRight z) → z ≤ length old → {r : ℕ} {new : List ℕ} → PutCommand ts cs ls r old new → Records ts cs ls n old (Done r) new
+  done-is z w h p =
+      let g = le-leb (length (encode (w .c))) (length old) (omega (arith, w .size)) in
+      let v = p n (w .c) (w .is) in
+      record { answers = rw (w .is, g, v .0); holds = rw (w .is, g) (v .1) }
+
+  module _ (z : ℕ) {x : Checked} (w : TokensOf ts cs) (q : x ≡ commandRead (readCut (basesIn ls) n (cutAt semi (tokensIn cs ts)))) (h : x ≡ Right z) where
+    right : IsRight z
+    right =
+        let t = tokensIn cs ts in
+        byRes (readCut (basesIn ls) n (cutAt semi t))
+        (λ c y.
+        let u : Right z ≡ Right (capped (length (encode c))) = sym h ∙ q ∙ ap commandRead y in
+        let v : z ≡ capped (length (encode c)) = cc in
+        let k = record-bound c (cut-wf (basesIn ls) n (cutAt semi t) c (cut-ok semi t (scan-ok (w .text) t (w .is))) y) in
+        record { c = c; is = y; size = v ∙ cap-small (length (encode c)) (omega arith) })
+        (λ k o y. let u : Right z ≡ Wrong k o = sym h ∙ q ∙ ap commandRead y in
+        let w : _≡_ {A = ℕ} 0 1 = cc in absurd (omega arith))
+
     -- 17
     pub tokens-short : length old < z → Records ts cs ls n old (Refused 17 z) old
-    tokens-short h =
-        let g = lt-leb (length (encode (w .c))) (length old) (omega (arith, w .size)) in
-        record { answers = rw (w .is, g, w .size); holds = rw (w .is, g) }
+    tokens-short s = short-is z right s
 
-    pub tokens-fit : z ≤ length old → CommandFits ts cs ls (length old)
-    tokens-fit h = record { end = n; c = w .c; is = w .is; fits = omega (arith, w .size) }
+    module _ (s : z ≤ length old) where
+      pub tokens-fit : CommandFits ts cs ls (length old)
+      tokens-fit = record { end = n; c = right .c; is = right .is; fits = omega (arith, right .size) }
 
-    pub tokens-done : {r : ℕ} {new : List ℕ} → z ≤ length old → PutCommand ts cs ls r old new → Records ts cs ls n old (Done r) new
-    tokens-done h p =
-        let g = le-leb (length (encode (w .c))) (length old) (omega (arith, w .size)) in
-        let v = p n (w .c) (w .is) in
-        record { answers = rw (w .is, g, v .0); holds = rw (w .is, g) (v .1) }
+      pub tokens-done : {r : ℕ} {new : List ℕ} → PutCommand ts cs ls r old new → Records ts cs ls n old (Done r) new
+      tokens-done p = done-is z right s p
+
+    pub tokens-answer : {r : ℕ} {new : List ℕ} → PutCommand ts cs ls r old new → z < 2 ^ 32 → Fits w32 r
+    tokens-answer p g = omega (arith, p n (right .c) (right .is) .0, right .size)
 
 -- ---- from the text
-
--- what the filler said
-pub filled-bad : (x : Res (List Token)) (ts cs : List ℕ) {r : Filled} {n p : ℕ} → IsFilled x ts cs r → r ≡ NotFilled n p → x ≡ bad n p
-filled-bad x ts cs f e = subst (IsFilled x ts cs) e f
-
-pub filled-done : (x : Res (List Token)) (ts cs : List ℕ) {r : Filled} {n m : ℕ} → IsFilled x ts cs r → r ≡ Filling n m → Holds x ts cs n m
-filled-done x ts cs f e = subst (IsFilled x ts cs) e f
 
 pub text-long : (s ls old : List ℕ) → 1024 < length s → RecordsText s ls old (Refused 2 1024) old
 unfolding scan
 text-long s ls old h = refused old (commandOf ls (length s) (scan s)) 2 1024 (rw (lt-leb (length s) 1024 h, scan))
 
-pub text-refused : (s ls old : List ℕ) (n p : ℕ) → scan s ≡ bad n p → RecordsText s ls old (Refused n p) old
-text-refused s ls old n p e = refused old (commandOf ls (length s) (scan s)) n p (rw e)
+-- a text that is not too long is refused inside
+refused-inside : (s : List ℕ) (n p : ℕ) → length s ≤ 1024 → scan s ≡ bad n p → p < length s
+unfolding scan
+refused-inside s n p h e =
+    let m = length s in
+    let P : ℕ → ℕ → Type 0 = λ n p. p < m in
+    let w : Comes P (Before m) (scan s) = rw (le-leb m 1024 h, scan) (bind-comes P Whatever (Before m) (firstOff 0 s) (λ b. run idle 0 s)
+    (off-comes P m (λ n p a i. i) s 0 (omega arith)) (λ b z. run-comes P m (λ n p a i. i) s idle 0 tt (omega arith))) in
+    comes-bad P (Before m) (scan s) n p w e
 
-pub text-filled : (s ls old : List ℕ) {ts cs : List ℕ} {n m : ℕ} {r : Answer} {new : List ℕ} → Holds (scan s) ts cs n m
-    → Records (take n ts) cs ls (length s) old r new → RecordsText s ls old r new
-text-filled s ls old w p = rw (w .is) p
+-- what the filler said
+module _ (s ts cs : List ℕ) {x : Filled} (f : IsFilled (scan s) ts cs x) where
+  module _ {n p : ℕ} (e : x ≡ NotFilled n p) where
+    its-refusal : scan s ≡ bad n p
+    its-refusal = subst (IsFilled (scan s) ts cs) e f
+
+    pub refused-place : length s ≤ 1024 → Fits w32 p
+    refused-place h = omega (arith, refused-inside s n p h its-refusal)
+
+    pub text-refused : (ls old : List ℕ) → RecordsText s ls old (Refused n p) old
+    text-refused ls old = refused old (commandOf ls (length s) (scan s)) n p (rw its-refusal)
+
+  module _ {n m : ℕ} (e : x ≡ Filling n m) where
+    its-tokens : Holds (scan s) ts cs n m
+    its-tokens = subst (IsFilled (scan s) ts cs) e f
+
+    pub filled-table : n ≤ length ts
+    filled-table = its-tokens .table
+
+    pub filled-tokens : TokensOf (take n ts) cs
+    filled-tokens = record { text = s; is = its-tokens .is }
+
+    pub text-filled : (ls old : List ℕ) {r : Answer} {new : List ℕ} → Records (take n ts) cs ls (length s) old r new → RecordsText s ls old r new
+    text-filled ls old p = rw (its-tokens .is) p
 
 -- ---- the whole
 

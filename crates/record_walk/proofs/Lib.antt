@@ -1,4 +1,3 @@
 pub mod FrontLaws
 pub mod WalkLaws
-pub mod SeveralLaws
 pub mod RunLaws

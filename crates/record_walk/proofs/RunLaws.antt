@@ -3,7 +3,7 @@ use mathlib.Core.Path.{_≡_, refl, sym, ap, _∙_, subst}
 use mathlib.Core.Bool.{Bool, true, false, false≢true}
 use mathlib.Core.List.{List, [], _∷_, _++_, map, append-assoc}
 use Prim.Native.Nat.{ℕ, _+_, _-_, _*_, _/_, _%_, _≤_, _<_}
-use native.Mathlib.Nat.{div-add-mod', add-zero}
+use native.Mathlib.Nat.{div-add-mod'}
 use native.Mathlib.Omega.{arith}
 use borrow.Author.Tests.{lt-leb, le-leb, leb-true}
 use lib.Dec.{leb}
@@ -15,7 +15,10 @@ use Rattle.rules.specs.Characters.{between}
 use Rattle.rules.specs.Units.{Unit, num, keyed, identifier, symbolic, text}
 use Rattle.rules.specs.Commands.{Element, single, range}
 use Rattle.rules.specs.Records.{Field, field, fourBytes, num4, fieldBytes, bytesOf, many, unitField, elementFields}
+use Rattle.rules.proofs.FieldLaws.{bytes-append}
 use Rattle.record_walk.specs.Fronts.{tagOf, sizeOf}
+use Rattle.record_walk.specs.Spans.{size}
+use Rattle.record_walk.proofs.WalkLaws.{tag-there}
 use Rattle.record_walk.specs.Runs.{Whole, bytesIn, fieldSize, tagIn, RunsTo, ElementTo}
 
 -- what stands behind e, where e stands at `at`
@@ -25,6 +28,10 @@ drop-behind rec at e rest h = sym (drop-drop (length e) at rec) ∙ ap (drop (le
 -- and it stands inside the record
 pub stands-inside : (rec : List ℕ) (at : ℕ) (e rest : List ℕ) → drop at rec ≡ e ++ rest → at ≤ length rec → at + length e ≤ length rec
 stands-inside rec at e rest h k = omega (arith, length-drop at rec, ap length h, length-append e rest)
+
+-- the bytes of fields one behind the other
+pub size-append : (fs gs : List Field) → size (fs ++ gs) ≡ size fs + size gs
+size-append fs gs = ap length (bytes-append fs gs) ∙ length-append (bytesOf fs) (bytesOf gs)
 
 -- ---- bytes from one position to another
 
@@ -72,8 +79,9 @@ module _ (rec : List ℕ) (at : ℕ) where
   pub after-on : at < length rec → at + 3 ≤ at + fieldSize (drop at rec)
   after-on h = omega (arith, size-there h)
 
-  tag-there : tagOf (drop at rec) ≡ getD rec at 0
-  tag-there = rw (getD-drop, add-zero)
+-- and what stands behind it
+pub behind-field : (rec : List ℕ) (at : ℕ) (f : Field) (rest : List ℕ) → drop at rec ≡ fieldBytes f ++ rest → drop (at + fieldSize (drop at rec)) rec ≡ rest
+behind-field rec at f rest h = ap (λ (n : ℕ). drop n rec) (after-field rec at f rest h) ∙ drop-behind rec at (fieldBytes f) rest h
 
 -- behind a field the record is whole as well
 whole-from : (rec : List ℕ) (at : ℕ) (fs : List Field) → drop at rec ≡ bytesOf fs → at ≤ length rec → Whole rec (at + fieldSize (drop at rec))
@@ -92,6 +100,12 @@ whole-from rec at (f ∷ fs) e k =
 pub whole-after : {rec : List ℕ} {at : ℕ} → Whole rec at → Whole rec (at + fieldSize (drop at rec))
 whole-after {rec} {at} w = whole-from rec at (w .fs) (w .is) (w .inside)
 
+pub header-inside : (rec : List ℕ) (at : ℕ) → Whole rec at → at < length rec → at + 3 ≤ length rec
+header-inside rec at w h = omega (arith, whole-after w .inside, after-on rec at h)
+
+pub whole-next : {rec : List ℕ} {at next : ℕ} → Whole rec at → next ≡ at + fieldSize (drop at rec) → Whole rec next
+whole-next {rec} w e = subst (Whole rec) (sym e) (whole-after w)
+
 -- ---- fields of some tags
 
 module _ (low high : ℕ) (rec : List ℕ) (at : ℕ) where
@@ -102,18 +116,9 @@ module _ (low high : ℕ) (rec : List ℕ) (at : ℕ) where
   none-is h (field t w ∷ fs) rest e a =
       absurd (false≢true (sym h ∙ ap (λ (r : List ℕ). between low high (tagOf r)) e ∙ and-l (between low high t) (all (tagIn low high) fs) a))
 
-  pub run-stop : {q : Bool} → Whole rec at → q ≡ between low high (getD rec at 0) → q ≡ false → RunsTo low high rec at at
-  run-stop w e q =
-      let h : between low high (tagOf (drop at rec)) ≡ false = rw (tag-there rec at) (sym e ∙ q) in
-      record { from = omega arith; whole = w; is = λ fs rest g a s. none-is h fs rest g a }
-
   end-is : (fs : List Field) (rest : List ℕ) → [] ≡ bytesOf fs ++ rest → at ≡ at + length (bytesOf fs)
   end-is [] rest e = omega arith
   end-is (field t w ∷ fs) rest e = absurd (omega (arith, ap length e))
-
-  pub run-over : Whole rec at → length rec ≤ at → RunsTo low high rec at at
-  run-over w h =
-      record { from = omega arith; whole = w; is = λ fs rest g a s. end-is fs rest (sym (drop-of-length-le rec h) ∙ g) }
 
   -- one stands there, and others may stand behind it
   more-is : between low high (tagOf (drop at rec)) ≡ true → {r : ℕ} → RunsTo low high rec (at + fieldSize (drop at rec)) r
@@ -123,17 +128,43 @@ module _ (low high : ℕ) (rec : List ℕ) (at : ℕ) where
   more-is h {r} p (field t w ∷ fs) rest e a s =
       let b : List ℕ = fieldBytes (field t w) in
       let g : drop at rec ≡ b ++ (bytesOf fs ++ rest) = e ∙ append-assoc b (bytesOf fs) rest in
-      let z : at + fieldSize (drop at rec) ≡ at + length b = after-field rec at (field t w) (bytesOf fs ++ rest) g in
-      let d : drop (at + fieldSize (drop at rec)) rec ≡ bytesOf fs ++ rest =
-      ap (λ (n : ℕ). drop n rec) z ∙ drop-behind rec at b (bytesOf fs ++ rest) g in
-      let q : r ≡ at + fieldSize (drop at rec) + length (bytesOf fs) = p .is fs rest d (and-r (between low high t) (all (tagIn low high) fs) a) s in
+      let z = after-field rec at (field t w) (bytesOf fs ++ rest) g in
+      let q = p .is fs rest (behind-field rec at (field t w) (bytesOf fs ++ rest) g) (and-r (between low high t) (all (tagIn low high) fs) a) s in
       omega (arith, length-append b (bytesOf fs))
 
-  pub run-more : {q : Bool} {r : ℕ} → at < length rec → q ≡ between low high (getD rec at 0) → q ≡ true
-      → RunsTo low high rec (at + fieldSize (drop at rec)) r → RunsTo low high rec at r
-  run-more k e q p =
-      let h : between low high (tagOf (drop at rec)) ≡ true = rw (tag-there rec at) (sym e ∙ q) in
-      record { from = omega (arith, after-on rec at k, p .from); whole = p .whole; is = more-is h p }
+-- ---- the loop: where the run ends from here, it ends from the start
+
+pub record Running (low high : ℕ) (rec : List ℕ) (at end : ℕ) : Type 0 where
+  pub whole : Whole rec end
+  pub same : (r : ℕ) → RunsTo low high rec end r → RunsTo low high rec at r
+
+pub running-none : (low high : ℕ) {rec : List ℕ} {at : ℕ} → Whole rec at → Running low high rec at at
+running-none low high w = record { whole = w; same = λ r p. p }
+
+module _ {low high at end : ℕ} {rec : List ℕ} (v : Running low high rec at end) where
+  ended : ((fs : List Field) (rest : List ℕ) → drop end rec ≡ bytesOf fs ++ rest → all (tagIn low high) fs ≡ true → end ≡ end + length (bytesOf fs)) → RunsTo low high rec at end
+  ended k = v .same end (record { from = omega arith; whole = v .whole; is = λ fs rest g a s. k fs rest g a })
+
+  pub running-over : length rec ≤ end → RunsTo low high rec at end
+  running-over h = ended (λ fs rest g a. end-is low high rec end fs rest (sym (drop-of-length-le rec h) ∙ g))
+
+  module _ {q : Bool} (e : q ≡ between low high (getD rec end 0)) where
+    tag-is : {y : Bool} → q ≡ y → between low high (tagOf (drop end rec)) ≡ y
+    tag-is h = rw (tag-there rec end) (sym e ∙ h)
+
+    pub running-stop : q ≡ false → RunsTo low high rec at end
+    running-stop h = ended (none-is low high rec end (tag-is h))
+
+    pub running-more : {next : ℕ} → end < length rec → q ≡ true → next ≡ end + fieldSize (drop end rec) → Running low high rec at next
+    running-more k h n =
+        rw n (record {
+          whole = whole-after (v .whole);
+          same = λ r p. v .same r (record { from = omega (arith, after-on rec end k, p .from); whole = p .whole; is = more-is low high rec end (tag-is h) p });
+        })
+
+-- each turn comes nearer to the end
+pub running-less : (rec : List ℕ) (end : ℕ) {next : ℕ} → end < length rec → next ≡ end + fieldSize (drop end rec) → length rec - next < length rec - end
+running-less rec end k n = omega (arith, after-on rec end k)
 
 -- ---- an element
 
@@ -148,16 +179,15 @@ pub unit-tags : (us : List Unit) → all (tagIn 7 11) (map unitField us) ≡ tru
 unit-tags [] = refl
 unit-tags (u ∷ us) = rw (unit-tag u, unit-tags us)
 
-module _ (rec : List ℕ) (at : ℕ) {r : ℕ} (p : RunsTo 7 11 rec (at + fieldSize (drop at rec)) r) where
+module _ (rec : List ℕ) (at : ℕ) {next r : ℕ} (n : next ≡ at + fieldSize (drop at rec)) (p : RunsTo 7 11 rec next r) where
   units-is : (f : Field) (us : List Unit) (rest : List ℕ) → drop at rec ≡ bytesOf (f ∷ map unitField us) ++ rest → between 7 11 (tagOf rest) ≡ false
       → r ≡ at + length (bytesOf (f ∷ map unitField us))
   units-is f us rest e s =
       let b : List ℕ = fieldBytes f in
       let u : List ℕ = bytesOf (map unitField us) in
       let g : drop at rec ≡ b ++ (u ++ rest) = e ∙ append-assoc b u rest in
-      let z : at + fieldSize (drop at rec) ≡ at + length b = after-field rec at f (u ++ rest) g in
-      let d : drop (at + fieldSize (drop at rec)) rec ≡ u ++ rest = ap (λ (n : ℕ). drop n rec) z ∙ drop-behind rec at b (u ++ rest) g in
-      let q : r ≡ at + fieldSize (drop at rec) + length u = p .is (map unitField us) rest d (unit-tags us) s in
+      let z = after-field rec at f (u ++ rest) g in
+      let q = p .is (map unitField us) rest (ap (λ (k : ℕ). drop k rec) n ∙ behind-field rec at f (u ++ rest) g) (unit-tags us) s in
       omega (arith, length-append b u)
 
   element-is : (e : Element) (rest : List ℕ) → drop at rec ≡ bytesOf (elementFields e) ++ rest → between 7 11 (tagOf rest) ≡ false

@@ -3,30 +3,31 @@ use mathlib.Core.Path.{_≡_, refl, sym, _∙_, subst}
 use mathlib.Core.Bool.{Bool, true, false}
 use mathlib.Core.List.{List, [], _∷_}
 use mathlib.Core.Option.{none, some}
-use denote.Enum.Declared
-use types.Run
 use Prim.Native.Nat.{ℕ, zero, suc, _+_, _-_, _*_, _≤_, _<_}
 use native.Mathlib.Nat.{add-zero}
 use native.Mathlib.Omega.{arith}
-use borrow.Author.Tests.{lt-ltb, le-ltb, ltb-false, ltb-true}
-use lib.Dec.{ltb}
-use lib.ListN.{length, getD, take, drop, length-drop}
-use lib.Seq.{take-all, getD-drop, drop-drop, length-take-le}
+use borrow.Author.Tests.{eqb-true, lt-ltb, le-ltb, ltb-false, ltb-true}
+use lib.Dec.{eqb, ltb}
+use lib.ListN.{length, getD, drop, length-drop}
+use lib.Seq.{drop-cons, getD-drop, drop-drop, length-take-le}
 use Rattle.laws.specs.Cases.{pick-if}
 use Rattle.laws.specs.Keys.{None, none-above}
 use Rattle.rules.specs.Records.{field, stringTag}
 use Rattle.record_walk.specs.declared.Found.{Found}
 use Rattle.record_walk.specs.declared.Found.the-variants.{Field, Nothing}
-use Rattle.record_walk.specs.Fields.{fits, lengthAt, fieldAt}
+use Rattle.record_walk.specs.Fields.{never, lengths, fits, lengthAt, fieldAt}
 use Rattle.record_walk.specs.Fronts.{tagOf, headTag, front}
 use Rattle.record_walk.specs.Runs.{bytesIn}
-use Rattle.record_walk.proofs.Found as Found'
 use Rattle.record_walk.proofs.FrontLaws.{head-some, head-room, front-of, front-unfit, front-short}
 
 -- a tag that is none of the match's keys
 pub no-tag : (t : ℕ) → None t stringTag → (t ≡ 0 → ⊥) → 12 ≤ t
 no-tag zero r h = absurd (h refl)
 no-tag (suc t) r h = none-above (suc t) stringTag r (omega arith)
+
+pub fits-is : (t n : ℕ) → fits t n ≡ getD lengths t never n
+unfolding fits
+fits-is t n = refl
 
 -- ---- the turns of the function
 
@@ -65,9 +66,6 @@ abbrev pub Finds : List ℕ → ℕ → Found → Type 0
 Finds rec at (Field t s k) = IsField rec at t s k
 Finds rec at Nothing = front (drop at rec) ≡ none
 
-field-apart : Run.OneOf (1 ∷ []) 0 → ⊥
-field-apart e = omega arith
-
 module _ (rec : List ℕ) (at : ℕ) where
   pub tag-there : tagOf (drop at rec) ≡ getD rec at 0
   tag-there = rw (getD-drop, add-zero)
@@ -95,11 +93,6 @@ module _ (rec : List ℕ) (at : ℕ) where
         is = rw (size, front-of (drop at rec) (getD rec at 0) n tag-there length-there room f, drop-drop 3 at rec, drop-drop (3 + n) at rec, behind);
       }
 
-  unfit : at + 3 + lengthAt rec at ≤ length rec → fits (getD rec at 0) (lengthAt rec at) ≡ false → front (drop at rec) ≡ none
-  unfit h f =
-      let room : 3 + lengthAt rec at ≤ length (drop at rec) = omega (arith, length-drop at rec) in
-      front-unfit (drop at rec) (getD rec at 0) (lengthAt rec at) tag-there length-there room f
-
   finds-there : Finds rec at (fieldAt rec at)
   unfolding fieldAt
   finds-there =
@@ -109,20 +102,35 @@ module _ (rec : List ℕ) (at : ℕ) where
       (λ y. cut-off (omega (arith, ltb-false (length rec - at) 3 y1, ltb-true (length rec - at - 3) n y)))
       (λ y2.
       let room : at + 3 + n ≤ length rec = omega (arith, ltb-false (length rec - at) 3 y1, ltb-false (length rec - at - 3) n y2) in
-      pick-if (Finds rec at) (fits (getD rec at 0) n) (λ y. stands-whole room y) (λ y. unfit room y)))
+      pick-if (Finds rec at) (fits (getD rec at 0) n) (λ y. stands-whole room y)
+      (λ y. front-unfit (drop at rec) (getD rec at 0) n tag-there length-there (omega (arith, length-drop at rec)) y)))
 
   pub finds : (r : Found) → r ≡ fieldAt rec at → Finds rec at r
   finds r e = subst (Finds rec at) (sym e) finds-there
 
-  -- an answer that is no field, in the words of a `let .. else`
-  pub no-field : (r : Found) → Run.OneOf (1 ∷ []) (Declared.tagOf Found'.the-type r) → r ≡ fieldAt rec at → front (drop at rec) ≡ none
-  no-field (Field t s k) o e = absurd (field-apart o)
-  no-field Nothing o e = finds Nothing e
+  -- by the walker's answer
+  pub field-there : {r : Found} {t s k : ℕ} → r ≡ Field t s k → r ≡ fieldAt rec at → IsField rec at t s k
+  field-there {r} {t} {s} {k} e q = finds (Field t s k) (sym e ∙ q)
 
-  -- a part of a record from a position on
-  pub part-there : take (length rec - at) (drop at rec) ≡ drop at rec
-  part-there = take-all (length rec - at) (drop at rec) (simp length-drop (omega arith))
+  pub nothing-there : {r : Found} → r ≡ Nothing → r ≡ fieldAt rec at → front (drop at rec) ≡ none
+  nothing-there e q = finds Nothing (sym e ∙ q)
 
   -- where a tag stands, the record goes on
   pub tag-inside : 1 ≤ headTag (drop at rec) → at < length rec
   tag-inside h = omega (arith, head-room (drop at rec) h, length-drop at rec)
+
+-- a field whose content is one byte: a block's kind, a place's letter
+pub record Lettered (rec : List ℕ) (at t s k : ℕ) : Type 0 where
+  pub own : IsField rec at t s k
+  pub one : k - s ≡ 1
+  pub here : s < length rec
+  pub content : bytesIn rec s k ≡ getD rec s 0 ∷ []
+
+pub lettered : (rec : List ℕ) (at tag : ℕ) → ((n : ℕ) → fits tag n ≡ eqb n 1) → {r : Found} {t s k : ℕ} → r ≡ Field t s k → r ≡ fieldAt rec at → headTag (drop at rec) ≡ tag
+    → Lettered rec at t s k
+lettered rec at tag letter {r} {t} {s} {k} e q h =
+    let f = field-there rec at e q in
+    let fit : fits tag (k - s) ≡ true = rw (f .tag ∙ h) at (f .fit) in
+    let one = eqb-true (k - s) 1 (sym (letter (k - s)) ∙ fit) in
+    let here : s < length rec = omega (arith, f .inside, one) in
+    record { own = f; one = one; here = here; content = rw (one, drop-cons rec s 0 here) }

@@ -1,19 +1,19 @@
 -- M-109: a capital is at most 32 below its small letter, a base's letter is a capital, and a keyed numeral as records hold it is its own capitals.
-use Prim.Native.Nat.{ℕ, _+_, _≤_, _<_}
+use Prim.Native.Nat.{ℕ, _+_, _≤_}
 use mathlib.Core.Path.{_≡_, refl, ap, ap₂, _∙_}
 use mathlib.Core.Bool.{true, _||_, not}
 use mathlib.Core.List.{List, [], _∷_, map}
 use mathlib.Core.Option.{some}
 use native.Mathlib.Omega.{arith}
-use lib.Dec.{leb, eqb}
+use lib.Dec.{eqb}
 use borrow.Author.Tests.{eqb-true, leb-true, lt-leb}
-use Rattle.laws.specs.Cases.{byBool, and-l, and-r, or-cases}
-use Rattle.laws.specs.Lists.{all, isNil}
+use Rattle.laws.specs.Cases.{byBool, and-l, or-cases, conjuncts}
+use Rattle.laws.specs.Lists.{all, isNil, all-mono}
 use Rattle.rules.specs.Characters.{byte, between, capital}
 use Rattle.rules.specs.Units.{rD, rH, rO, rB, Base, plain, keys, letter, baseOf, isKey, isHeldKey, runOf}
 
 pub between-le : (a b c : ℕ) → between a b c ≡ true → c ≤ b
-between-le a b c h = leb-true c b (and-r (leb a c) (leb c b) h)
+between-le a b c h = leb-true c b (search conjuncts)
 
 pub capital-near : (c : ℕ) → c ≤ capital c + 32
 capital-near c = byBool (between 97 122 c) (λ y. rw y (omega arith)) (λ y. rw y (omega arith))
@@ -25,9 +25,6 @@ letter-capital (plain rO) = refl
 letter-capital (plain rB) = refl
 letter-capital keys = refl
 
-pub capital-low : (c : ℕ) → c < 97 → capital c ≡ c
-capital-low c h = rw (lt-leb 97 c h)
-
 -- the highest keyed digit that a record holds is D
 pub held-low : (c : ℕ) → isHeldKey c ≡ true → c ≤ byte "D"
 held-low c h =
@@ -38,26 +35,14 @@ held-low c h =
     (λ h. omega (arith, eqb-true c 35 h))
 
 pub held-capital : (c : ℕ) → isHeldKey c ≡ true → capital c ≡ c
-held-capital c h = capital-low c (omega (arith, held-low c h))
-
-pub held-keys : (w : List ℕ) → all isHeldKey w ≡ true → all isKey w ≡ true
-held-keys [] h = refl
-held-keys (c ∷ w) h =
-    let y : isHeldKey c ≡ true = and-l (isHeldKey c) (all isHeldKey w) h in
-    let k : isKey c ≡ true = ap isHeldKey (held-capital c y) ∙ y in
-    rw k (held-keys w (and-r (isHeldKey c) (all isHeldKey w) h))
+held-capital c h = rw (lt-leb 97 c (omega (arith, held-low c h)))
 
 pub held-run : (w : List ℕ) → runOf isHeldKey w ≡ true → runOf isKey w ≡ true
 held-run w h =
     let some : not (isNil w) ≡ true = and-l (not (isNil w)) (all isHeldKey w) h in
-    rw (some, held-keys w (and-r (not (isNil w)) (all isHeldKey w) h))
+    rw (some, all-mono isHeldKey isKey (λ c y. ap isHeldKey (held-capital c y) ∙ y) w (search conjuncts))
 
 pub held-capitals : (w : List ℕ) → all isHeldKey w ≡ true → map capital w ≡ w
 held-capitals [] h = refl
 held-capitals (c ∷ w) h =
-    ap₂ (λ a l. a ∷ l) (held-capital c (and-l (isHeldKey c) (all isHeldKey w) h)) (held-capitals w (and-r (isHeldKey c) (all isHeldKey w) h))
-
--- what is typed as keyed digits is held as them
-pub keys-held : (w : List ℕ) → all isKey w ≡ true → all isHeldKey (map capital w) ≡ true
-keys-held [] h = refl
-keys-held (c ∷ w) h = rw (and-l (isKey c) (all isKey w) h) (keys-held w (and-r (isKey c) (all isKey w) h))
+    ap₂ (λ a l. a ∷ l) (held-capital c (search conjuncts)) (held-capitals w (search conjuncts))

@@ -1,27 +1,26 @@
 -- M-109: what is read holds capitals in every keyed numeral, since what is read is well formed and a keyed numeral is so in capitals alone.
 use Prim.Native.Nat.{ℕ}
 use mathlib.Core.Path.{_≡_, refl, subst}
-use mathlib.Core.Bool.{Bool, true, _&&_, not}
+use mathlib.Core.Bool.{Bool, true}
 use mathlib.Core.List.{List, [], _∷_, _++_, map}
 use native.Mathlib.Omega.{arith}
-use lib.Dec.{leb, eqb}
 use lib.ListN.{length}
-use Rattle.laws.specs.Cases.{and-l, and-r}
+use Rattle.laws.specs.Cases.{conjuncts}
 use Rattle.laws.specs.Keys.{anyOf}
-use Rattle.laws.specs.Lists.{all, isNil, all-append, all-concat, all-member}
+use Rattle.laws.specs.Lists.{all, all-append, all-mono, all-map, all-concat, all-member}
 use Rattle.rules.specs.Characters.{bytes}
 use Rattle.rules.specs.Commands.{Element, Place, place, Block, block, Command, command, leading, lastUnit, allPlaces, elementUnits, placeUnits, commandUnits}
 use Rattle.rules.specs.Reading.{read}
 use Rattle.rules.specs.Refusals.{ok}
-use Rattle.rules.specs.Units.{Base, Unit, num, keyed, identifier, symbolic, text, isHeldKey, runOf}
-use Rattle.rules.specs.WellFormed.{wfUnit, wfRange, wfElement, wfValue, wfPlace, wfBlock, wellFormed}
+use Rattle.rules.specs.Units.{Base, Unit, num, keyed, identifier, symbolic, text, isHeldKey}
+use Rattle.rules.specs.WellFormed.{wfUnit, wfElement, wfValue, wfPlace, wfBlock, wellFormed}
 use Rattle.rules.proofs.CapitalLaws.{held-low}
 use Rattle.rules.proofs.CommandBack.{c-blocks}
 use Rattle.rules.proofs.DecodeEncode.{place-value}
 use Rattle.rules.proofs.Names.{block-places}
 use Rattle.rules.proofs.ReadSound.{read-wf}
-use Rattle.rules.proofs.RoundTrip.{all-mono, allBelow, imp, inside}
-use Rattle.rules.proofs.ValueBack.{v-all}
+use Rattle.rules.proofs.RoundTrip.{allBelow, imp, inside}
+use Rattle.rules.proofs.ValueBack.{ok-lead, ok-last, v-all}
 
 -- document 01's keyed digits, by list
 abbrev pub isListed : ℕ → Bool
@@ -42,32 +41,21 @@ inCapitals (text w) = true
 unit-capitals : (b : Base) (i : Unit) → wfUnit b i ≡ true → inCapitals i ≡ true
 unit-capitals b (num r f v) h = refl
 unit-capitals b (keyed w) h =
-    all-mono isHeldKey isListed held-listed w (and-r (not (isNil w)) (all isHeldKey w) (and-l (runOf isHeldKey w) (leb (length w) 32) h))
+    all-mono isHeldKey isListed held-listed w (search conjuncts)
 unit-capitals b (identifier w) h = refl
 unit-capitals b (symbolic w) h = refl
 unit-capitals b (text w) h = refl
 
-units-capitals : (b : Base) (us : List Unit) → all (wfUnit b) us ≡ true → all inCapitals us ≡ true
-units-capitals b [] h = refl
-units-capitals b (i ∷ us) h = rw (unit-capitals b i (and-l (wfUnit b i) (all (wfUnit b) us) h)) (units-capitals b us (and-r (wfUnit b i) (all (wfUnit b) us) h))
-
 element-capitals : (b : Base) (n : ℕ) (e : Element) → wfElement b n e ≡ true → all inCapitals (elementUnits e) ≡ true
 element-capitals b n e h =
-    let N : Bool = eqb (length (leading e)) n in
-    let L : Bool = all (wfUnit b) (leading e) in
-    let U : Bool = wfUnit b (lastUnit e) in
-    let h3 : N && L && U ≡ true = and-l (N && L && U) (wfRange b e) h in
-    let last : inCapitals (lastUnit e) ≡ true = unit-capitals b (lastUnit e) (and-r (N && L) U h3) in
-    all-append inCapitals (leading e) (lastUnit e ∷ []) (units-capitals b (leading e) (and-r N L (and-l (N && L) U h3))) (rw last)
-
-elements-capitals : (b : Base) (n : ℕ) (es : List Element) → all (wfElement b n) es ≡ true → all (all inCapitals) (map elementUnits es) ≡ true
-elements-capitals b n [] h = refl
-elements-capitals b n (e ∷ es) h =
-    rw (element-capitals b n e (and-l (wfElement b n e) (all (wfElement b n) es) h)) (elements-capitals b n es (and-r (wfElement b n e) (all (wfElement b n) es) h))
+    let last : inCapitals (lastUnit e) ≡ true = unit-capitals b (lastUnit e) (ok-last b n e h) in
+    all-append inCapitals (leading e) (lastUnit e ∷ []) (all-mono (wfUnit b) inCapitals (unit-capitals b) (leading e) (ok-lead b n e h)) (rw last)
 
 value-capitals : (b : Base) (v : List Element) → wfValue b v ≡ true → all (all inCapitals) (map elementUnits v) ≡ true
 value-capitals b [] h = refl
-value-capitals b (e ∷ es) h = elements-capitals b (length (leading e)) (e ∷ es) (v-all b e es h)
+value-capitals b (e ∷ es) h =
+    let n : ℕ = length (leading e) in
+    all-map (wfElement b n) (all inCapitals) elementUnits (element-capitals b n) (e ∷ es) (v-all b e es h)
 
 place-capitals : (k : Bool) (p : Place) → wfPlace k p ≡ true → all inCapitals (placeUnits p) ≡ true
 place-capitals k (place b nm v) h = all-concat inCapitals (map elementUnits v) (value-capitals b v (place-value k b nm v h))
@@ -76,13 +64,13 @@ places-capitals : (k : Bool) (ps qs : List Place) → all (wfPlace k) ps ≡ tru
     → all (all inCapitals) (map placeUnits (ps ++ qs)) ≡ true
 places-capitals k [] qs h hq = hq
 places-capitals k (p ∷ ps) qs h hq =
-    rw (place-capitals k p (and-l (wfPlace k p) (all (wfPlace k) ps) h)) (places-capitals k ps qs (and-r (wfPlace k p) (all (wfPlace k) ps) h) hq)
+    rw (place-capitals k p (search conjuncts)) (places-capitals k ps qs (search conjuncts) hq)
 
 blocks-capitals : (bs : List Block) → all wfBlock bs ≡ true → all (all inCapitals) (map placeUnits (allPlaces bs)) ≡ true
 blocks-capitals [] h = refl
 blocks-capitals (block k ps ∷ bs) h =
-    places-capitals k ps (allPlaces bs) (block-places k ps (and-l (wfBlock (block k ps)) (all wfBlock bs) h))
-    (blocks-capitals bs (and-r (wfBlock (block k ps)) (all wfBlock bs) h))
+    places-capitals k ps (allPlaces bs) (block-places k ps (search conjuncts))
+    (blocks-capitals bs (search conjuncts))
 
 well-capitals : (c : Command) → wellFormed c ≡ true → all inCapitals (commandUnits c) ≡ true
 well-capitals (command c bs) h = all-concat inCapitals (map placeUnits (allPlaces bs)) (blocks-capitals bs (c-blocks c bs h))

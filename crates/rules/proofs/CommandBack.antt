@@ -1,38 +1,31 @@
 -- A command's tokens, read, give the command back: joined lists split where they were joined, since no separator of a level stands inside a piece of it.
 use Prim.Native.Nat.{ℕ, zero, suc, _+_, _*_, _≤_, _<_}
-use mathlib.Core.Path.{_≡_, refl, sym, ap, ap₂, _∙_}
-use mathlib.Core.Bool.{Bool, true, false, _&&_, not, false≢true}
+use mathlib.Core.Path.{_≡_, refl, sym, ap, ap₂, _∙_, subst}
+use mathlib.Core.Bool.{Bool, true, false, false≢true, Bool·beq}
 use mathlib.Core.List.{List, [], _∷_, _++_, map, append-nil, append-assoc}
 use native.Mathlib.Nat.{add-zero, not-suc-le-zero, le-of-suc-le-suc, mul-pos, mul-one, mul-le-mul-left}
 use native.Mathlib.Omega.{arith}
-use lib.Dec.{leb}
 use lib.ListN.{length, getD, length-append, length-map}
-use borrow.Author.Tests.{not-true, leb-true, eq-eqb, le-leb, lt-ltb, ne-eqb}
-use Rattle.laws.specs.Cases.{and-l, and-r, Always}
-use Rattle.laws.specs.Lists.{all, isNil, all-append}
-use Rattle.rules.specs.Commands.{Name, Element, single, Place, place, Block, block, Command, command, leading, lastUnit, placeCount, mult, isSep, Seg, seg, first, split, cut, uncut, cutAt, pieces, isPiece, isCut, placeBase, placeName, placesOf, allPlaces}
-use Rattle.rules.specs.Groups.{isJoiner}
+use borrow.Author.Tests.{not-true, eq-eqb, le-leb, lt-ltb}
+use Rattle.laws.specs.Cases.{and-l, and-r, Always, conjuncts}
+use Rattle.laws.specs.Lists.{all, all-append}
+use Rattle.rules.specs.Commands.{Name, Element, Place, place, Block, block, Command, command, placeCount, mult, isSep, Seg, seg, first, split, cut, uncut, cutAt, pieces, isPiece, isCut, placeBase, placeName, placesOf, allPlaces}
+use Rattle.rules.specs.Groups.{isJoiner, readValue}
 use Rattle.rules.specs.Orders.{blockCount}
-use Rattle.rules.specs.Printing.{unitLex, Link, link, firstUnit, dashLinks, tailLinks, restLinks, linksLex, valueLex, moreLex, joinedLex, wordLex, nameLex, placeLex, blockLex, commandLex}
-use Rattle.rules.specs.Reading.{Placed, placed, unplaced, readPlace, readPlaces, kindOf, PlacedBlock, placedBlock, readBlock, blockSize, readBlocks, running, runningBlocks, blockOf, readSegs, readCut}
+use Rattle.rules.specs.Printing.{valueLex, moreLex, joinedLex, wordLex, placeLex, blockLex, commandLex}
+use Rattle.rules.specs.Reading.{Placed, placed, unplaced, readPosition, readOfKind, readPlace, readPlaces, kindOf, PlacedBlock, placedBlock, readBlocks, running, runningBlocks, blockOf, readCut}
 use Rattle.rules.specs.Records.{basesOf, allBases}
 use Rattle.rules.specs.Refusals.{ok}
 use Rattle.rules.specs.Tokens.{Sep, dash, comma, colon, equals, semi, Lex, sep, at, sepCode}
-use Rattle.rules.specs.Units.{rD, Base, plain, Unit, num, keyed, identifier, symbolic, text, isIdentifier}
-use Rattle.rules.specs.WellFormed.{wfUnit, wfValue, wfPieces, wfPlace, wfBlock, wellFormed}
+use Rattle.rules.specs.Units.{rD, Base, plain, isIdentifier}
+use Rattle.rules.specs.WellFormed.{wfPieces, wfPlace, wfBlock, wellFormed}
 use Rattle.rules.proofs.Counts.{count-pos}
 use Rattle.rules.proofs.Names.{freeOf, fresh, fresh-names, block-places, block-names}
-use Rattle.rules.proofs.ValueBack.{hd, tl, toks, value-back, linkOk, inner-ok, rest-ok, v-elem, v-rest}
-
--- the parts of a conjunction
-ruleset parts = (and-l, and-r, leb-true)
+use Rattle.rules.proofs.ValueBack.{hd, tl, toks, noSep, joiner-free, ValueTokens, value-back}
 
 abbrev pub pastL : List Lex → List ℕ → List ℕ
 pastL [] ps = ps
 pastL (x ∷ xs) ps = pastL xs (tl ps)
-
-abbrev pub noSep : Sep → Lex → Bool
-noSep s x = not (isSep s x)
 
 -- ---- pieces
 
@@ -57,168 +50,87 @@ module _ (s : Sep) (e : ℕ) where
   pub split-none : (xs : List Lex) (ps : List ℕ) → all (noSep s) xs ≡ true → split s e (toks ps xs) ≡ seg (toks ps xs) e ∷ []
   split-none [] ps h = refl
   split-none (x ∷ xs) ps h =
-      rw (not-true (isSep s x) (and-l (noSep s x) (all (noSep s) xs) h), split) (rw (split-none xs (tl ps) (and-r (noSep s x) (all (noSep s) xs) h)))
+      rw (not-true (isSep s x) (search conjuncts), split) (rw (split-none xs (tl ps) (search conjuncts)))
 
   pub split-at : (xs ys : List Lex) (ps : List ℕ) → all (noSep s) xs ≡ true
       → split s e (toks ps (xs ++ sep s ∷ ys)) ≡ seg (toks ps xs) (hd (pastL xs ps)) ∷ split s e (toks (tl (pastL xs ps)) ys)
   split-at [] ys ps h = rw (self s, split)
   split-at (x ∷ xs) ys ps h =
-      rw (not-true (isSep s x) (and-l (noSep s x) (all (noSep s) xs) h), split) (rw (split-at xs ys (tl ps) (and-r (noSep s x) (all (noSep s) xs) h)))
-
-  abbrev pub segs : List ℕ → List Lex → List (List Lex) → List Seg
-  segs ps x [] = seg (toks ps x) e ∷ []
-  segs ps x (y ∷ ys) = seg (toks ps x) (hd (pastL x ps)) ∷ segs (tl (pastL x ps)) y ys
-
-  pub split-joined : (x : List Lex) (xs : List (List Lex)) (ps : List ℕ) → all (all (noSep s)) (x ∷ xs) ≡ true
-      → split s e (toks ps (joinedLex s (x ∷ xs))) ≡ segs ps x xs
-  split-joined x [] ps h = rw (append-nil x) (split-none x ps (and-l (all (noSep s) x) true h))
-  split-joined x (y ∷ ys) ps h =
-      split-at x (y ++ moreLex s ys) ps (and-l (all (noSep s) x) (all (all (noSep s)) (y ∷ ys)) h)
-      ∙ ap (λ r. seg (toks ps x) (hd (pastL x ps)) ∷ r) (split-joined y ys (tl (pastL x ps)) (and-r (all (noSep s) x) (all (all (noSep s)) (y ∷ ys)) h))
+      rw (not-true (isSep s x) (search conjuncts), split) (rw (split-at xs ys (tl ps) (search conjuncts)))
 
   pub cut-none : (xs : List Lex) (ps : List ℕ) → all (noSep s) xs ≡ true → cutAt s (toks ps xs) ≡ uncut
   cut-none [] ps h = refl
   cut-none (x ∷ xs) ps h =
-      rw (not-true (isSep s x) (and-l (noSep s x) (all (noSep s) xs) h), cutAt) (rw (cut-none xs (tl ps) (and-r (noSep s x) (all (noSep s) xs) h)))
+      rw (not-true (isSep s x) (search conjuncts), cutAt) (rw (cut-none xs (tl ps) (search conjuncts)))
 
   pub cut-at : (xs ys : List Lex) (ps : List ℕ) → all (noSep s) xs ≡ true
       → cutAt s (toks ps (xs ++ sep s ∷ ys)) ≡ cut (toks ps xs) (hd (pastL xs ps)) (toks (tl (pastL xs ps)) ys)
   cut-at [] ys ps h = rw (self s, cutAt)
   cut-at (x ∷ xs) ys ps h =
-      rw (not-true (isSep s x) (and-l (noSep s x) (all (noSep s) xs) h), cutAt) (rw (cut-at xs ys (tl ps) (and-r (noSep s x) (all (noSep s) xs) h)))
+      rw (not-true (isSep s x) (search conjuncts), cutAt) (rw (cut-at xs ys (tl ps) (search conjuncts)))
 
--- ---- well-formed commands
-
--- ---- where separators are not
-
-pub no-item : (s : Sep) (b : Base) (i : Unit) → noSep s (unitLex b i) ≡ true
-no-item s b (num r f v) = refl
-no-item s b (keyed w) = refl
-no-item s b (identifier w) = refl
-no-item s b (symbolic w) = refl
-no-item s b (text w) = refl
-
-pub no-joiner : (s t : Sep) → leb 6 (sepCode s) ≡ true → isJoiner t ≡ true → noSep s (sep t) ≡ true
-no-joiner s t h k =
-    let h′ : 6 ≤ sepCode s = leb-true 6 (sepCode s) h in
-    let k′ : sepCode t ≤ 5 = leb-true (sepCode t) 5 k in
-    rw (ne-eqb (sepCode s) (sepCode t) (omega arith))
-
-module _ (s : Sep) (hs : leb 6 (sepCode s) ≡ true) where
-  pub no-links : (b : Base) (ls : List Link) → all (linkOk b) ls ≡ true → all (noSep s) (linksLex b ls) ≡ true
-  no-links b [] h = refl
-  no-links b (link t i ∷ ls) h =
-      let h1 : linkOk b (link t i) ≡ true = and-l (linkOk b (link t i)) (all (linkOk b) ls) h in
-      rw (no-joiner s t hs (and-l (isJoiner t) (wfUnit b i) h1), no-item s b i, no-links b ls (and-r (linkOk b (link t i)) (all (linkOk b) ls) h))
-
-  pub no-value : (b : Base) (v : List Element) → wfValue b v ≡ true → all (noSep s) (valueLex b v) ≡ true
-  no-value b [] h = refl
-  no-value b (e ∷ es) h =
-      rw (no-item s b (firstUnit (leading e) (lastUnit e)))
-      (no-links b (dashLinks (leading e) (lastUnit e) ++ tailLinks e ++ restLinks e es)
-      (all-append (linkOk b) (dashLinks (leading e) (lastUnit e) ++ tailLinks e) (restLinks e es) (inner-ok b (length (leading e)) e (v-elem b e es h))
-      (rest-ok b (length (leading e)) e es (v-rest b e es h))))
-
-  pub no-words : (ws : List (List ℕ)) → all (noSep s) (moreLex dash (map wordLex ws)) ≡ true
-  no-words [] = refl
-  no-words (w ∷ ws) = rw (no-joiner s dash hs refl, no-words ws)
-
-  pub no-name : noSep s (sep equals) ≡ true → (nm : List (List ℕ)) → all (noSep s) (nameLex nm) ≡ true
-  no-name he [] = refl
-  no-name he (w ∷ ws) = all-append (noSep s) (moreLex dash (map wordLex ws)) (sep equals ∷ []) (no-words ws) (rw he)
-
-  pub no-place : noSep s (sep equals) ≡ true → (k : Bool) (p : Place) → wfPlace k p ≡ true → all (noSep s) (placeLex p) ≡ true
-  no-place he true (place b nm v) h =
-      all-append (noSep s) (nameLex nm) (valueLex b v) (no-name he nm)
-      (no-value b v (and-r (wfPieces isPiece 3 nm && not (isNil v)) (wfValue b v) h))
-  no-place he false (place b nm v) h =
-      all-append (noSep s) (nameLex nm) (valueLex b v) (no-name he nm) (no-value b v (and-r (isNil nm) (wfValue b v) h))
-
-  pub no-places : noSep s (sep equals) ≡ true → (k : Bool) (ps : List Place) → all (wfPlace k) ps ≡ true → all (all (noSep s)) (map placeLex ps) ≡ true
-  no-places he k [] h = refl
-  no-places he k (p ∷ ps) h =
-      rw (no-place he k p (and-l (wfPlace k p) (all (wfPlace k) ps) h), no-places he k ps (and-r (wfPlace k p) (all (wfPlace k) ps) h))
-
-  pub no-more : (t : Sep) → noSep s (sep t) ≡ true → (xs : List (List Lex)) → all (all (noSep s)) xs ≡ true → all (noSep s) (moreLex t xs) ≡ true
-  no-more t ht [] h = refl
-  no-more t ht (x ∷ xs) h =
-      rw ht (all-append (noSep s) x (moreLex t xs) (and-l (all (noSep s) x) (all (all (noSep s)) xs) h)
-      (no-more t ht xs (and-r (all (noSep s) x) (all (all (noSep s)) xs) h)))
-
-  pub no-joined : (t : Sep) → noSep s (sep t) ≡ true → (xs : List (List Lex)) → all (all (noSep s)) xs ≡ true → all (noSep s) (joinedLex t xs) ≡ true
-  no-joined t ht [] h = refl
-  no-joined t ht (x ∷ xs) h =
-      all-append (noSep s) x (moreLex t xs) (and-l (all (noSep s) x) (all (all (noSep s)) xs) h)
-      (no-more t ht xs (and-r (all (noSep s) x) (all (all (noSep s)) xs) h))
-
-  pub no-block : noSep s (sep equals) ≡ true → noSep s (sep comma) ≡ true → (b : Block) → wfBlock b ≡ true → all (noSep s) (blockLex b) ≡ true
-  no-block he hc (block k ps) h = no-joined comma hc (map placeLex ps) (no-places he k ps (block-places k ps h))
-
-  pub no-blocks : noSep s (sep equals) ≡ true → noSep s (sep comma) ≡ true → (bs : List Block) → all wfBlock bs ≡ true → all (all (noSep s)) (map blockLex bs) ≡ true
-  no-blocks he hc [] h = refl
-  no-blocks he hc (b ∷ bs) h =
-      rw (no-block he hc b (and-l (wfBlock b) (all wfBlock bs) h), no-blocks he hc bs (and-r (wfBlock b) (all wfBlock bs) h))
-
--- ---- a place
-
-pub record PlaceBack (k : Bool) (bs : List Base) (n : ℕ) (ns : List Name) (s : Seg) (p : Place) : Type 0 where
-  pub spot : ℕ
-  pub got : readPlace k bs n ns s ≡ ok (placed spot p)
+-- ---- a place: tokens from which it is read, wherever they stand
 
 abbrev pub piecesLex : List (List ℕ) → List Lex
 piecesLex ws = joinedLex dash (map wordLex ws)
 
-pub name-cut : (b : Base) (w : List ℕ) (ws : List (List ℕ)) (v : List Element) (ps : List ℕ)
-    → cutAt equals (toks ps (placeLex (place b (w ∷ ws) v)))
-    ≡ cut (toks ps (piecesLex (w ∷ ws))) (hd (pastL (piecesLex (w ∷ ws)) ps)) (toks (tl (pastL (piecesLex (w ∷ ws)) ps)) (valueLex b v))
-name-cut b w ws v ps =
-    ap (λ l. cutAt equals (toks ps l)) (append-assoc (piecesLex (w ∷ ws)) (sep equals ∷ []) (valueLex b v))
-    ∙ cut-at equals 0 (piecesLex (w ∷ ws)) (valueLex b v) ps (no-words equals refl ws)
+pieces-free : (s : Sep) → isJoiner s ≡ false → (ws : List (List ℕ)) → all (noSep s) (moreLex dash (map wordLex ws)) ≡ true
+pieces-free s h [] = refl
+pieces-free s h (w ∷ ws) = rw (joiner-free s dash h refl) (pieces-free s h ws)
 
-pub cut-place : (k : Bool) (p : Place) (ps : List ℕ) → wfPlace k p ≡ true → isCut (cutAt equals (toks ps (placeLex p))) ≡ k
-cut-place true (place b [] v) ps h = absurd (false≢true h)
-cut-place true (place b (w ∷ ws) v) ps h = ap isCut (name-cut b w ws v ps)
-cut-place false (place b [] v) ps h = rw (cut-none equals 0 (valueLex b v) ps (no-value equals refl b v h))
-cut-place false (place b (w ∷ ws) v) ps h = absurd (false≢true h)
+pub record PlaceTokens (k : Bool) (xs : List Lex) (p : Place) : Type 0 where
+  pub free : (s : Sep) → isJoiner s ≡ false → noSep s (sep equals) ≡ true → all (noSep s) xs ≡ true
+  pub kind : (ps : List ℕ) → isCut (cutAt equals (toks ps xs)) ≡ k
+  pub spot : List ℕ → ℕ → ℕ
+  pub reads : (ps : List ℕ) (e : ℕ) (ns : List Name) → freeOf k ns (placeName p) ≡ true → readOfKind k (placeBase p) ns (toks ps xs) e ≡ ok (placed (spot ps e) p)
 
--- what `wordsOk` says
+pub no-tokens : (b : Base) → PlaceTokens false [] (place b [] [])
+no-tokens b = record { free = λ s h he. refl; kind = λ ps. refl; spot = λ ps e. e; reads = λ ps e ns f. refl }
+
+pub position-tokens : {b : Base} {xs : List Lex} {v : List Element} → ValueTokens b xs v → PlaceTokens false xs (place b [] v)
+position-tokens {b} {xs} {v} t =
+    record {
+      free = λ s h he. t .free s h;
+      kind = λ ps. rw (cut-none equals 0 xs ps (t .free equals refl));
+      spot = λ ps e. hd ps;
+      reads = λ ps e ns f. subst (λ z. readPosition b (toks ps z) e ≡ ok (placed (hd ps) (place b [] v))) (sym (t .is))
+          (rw (subst (λ z. readValue b (toks ps z) e ≡ ok v) (t .is) (t .reads ps e)));
+    }
+
+pub named-tokens : {b : Base} {xs : List Lex} {v : List Element} (w : List ℕ) (ws : List (List ℕ)) → isIdentifier w ≡ true → all isPiece ws ≡ true → length ws ≤ 3
+    → ValueTokens b xs v → PlaceTokens true (piecesLex (w ∷ ws) ++ (sep equals ∷ xs)) (place b (w ∷ ws) v)
+named-tokens {b} {xs} {v} w ws hw hs hl t =
+    let N : List Lex = piecesLex (w ∷ ws) in
+    record {
+      free = λ s h he. all-append (noSep s) N (sep equals ∷ xs) (pieces-free s h ws) (rw he (t .free s h));
+      kind = λ ps. rw (cut-at equals 0 N xs ps (pieces-free equals refl ws));
+      spot = λ ps e. first (toks (tl (pastL N ps)) xs) e;
+      reads = λ ps e ns f. rw (cut-at equals 0 N xs ps (pieces-free equals refl ws))
+          (rw (pieces-back 10 isPiece (hd (pastL N ps)) isIdentifier w ws 3 ps hw hs hl, f, t .reads (tl (pastL N ps)) e));
+    }
+
+-- what well-formed pieces have
 module _ (g : List ℕ → Bool) (most : ℕ) (w : List ℕ) (ws : List (List ℕ)) (h : wfPieces g most (w ∷ ws) ≡ true) where
   pub w-first : isIdentifier w ≡ true
-  w-first = search parts
+  w-first = search conjuncts
 
   pub w-more : all g ws ≡ true
-  w-more = search parts
+  w-more = search conjuncts
 
   pub w-most : length ws ≤ most
-  w-most = search parts
+  w-most = search conjuncts
 
-pub place-back : (k : Bool) (bs : List Base) (n : ℕ) (ns : List Name) (p : Place) (ps : List ℕ) (e : ℕ) → wfPlace k p ≡ true → n < 32 → getD bs n (plain rD) ≡ placeBase p → freeOf k ns (placeName p) ≡ true
-    → PlaceBack k bs n ns (seg (toks ps (placeLex p)) e) p
-place-back true bs n ns (place b [] v) ps e h hn hb hf = absurd (false≢true h)
-place-back true bs n ns (place b (w ∷ ws) []) ps e h hn hb hf =
-    absurd (false≢true (and-r (wfPieces isPiece 3 (w ∷ ws)) false (and-l (wfPieces isPiece 3 (w ∷ ws) && false) true h)))
-place-back true bs n ns (place b (w ∷ ws) (x ∷ v)) ps e h hn hb hf =
-    let N : List Lex = piecesLex (w ∷ ws) in
-    let hw : wfPieces isPiece 3 (w ∷ ws) ≡ true =
-    and-l (wfPieces isPiece 3 (w ∷ ws)) true (and-l (wfPieces isPiece 3 (w ∷ ws) && true) (wfValue b (x ∷ v)) h) in
-    let hv : wfValue b (x ∷ v) ≡ true = and-r (wfPieces isPiece 3 (w ∷ ws) && true) (wfValue b (x ∷ v)) h in
-    let ts : List ℕ = tl (pastL N ps) in
-    record {
-      spot = first (toks ts (valueLex b (x ∷ v))) e;
-      got = rw (lt-ltb n 32 hn, hb, name-cut b w ws (x ∷ v) ps)
-          (rw (
-            pieces-back 10 isPiece (hd (pastL N ps)) isIdentifier w ws 3 ps (w-first isPiece 3 w ws hw) (w-more isPiece 3 w ws hw) (w-most isPiece 3 w ws hw),
-            hf,
-            value-back b x v ts e hv,
-          ));
-    }
-place-back false bs n ns (place b (w ∷ ws) v) ps e h hn hb hf = absurd (false≢true h)
-place-back false bs n ns (place b [] []) ps e h hn hb hf = record { spot = e; got = rw (lt-ltb n 32 hn, hb) }
-place-back false bs n ns (place b [] (x ∷ v)) ps e h hn hb hf =
-    record {
-      spot = hd ps;
-      got = rw (lt-ltb n 32 hn, hb, cut-none equals 0 (valueLex b (x ∷ v)) ps (no-value equals refl b (x ∷ v) h)) (rw (value-back b x v ps e h));
-    }
+pub place-back : (k : Bool) (p : Place) → wfPlace k p ≡ true → PlaceTokens k (placeLex p) p
+place-back true (place b [] v) h = absurd (false≢true h)
+place-back true (place b (w ∷ ws) []) h =
+    absurd (false≢true (search conjuncts))
+place-back true (place b (w ∷ ws) (x ∷ v)) h =
+    let hw : wfPieces isPiece 3 (w ∷ ws) ≡ true = search conjuncts in
+    rw (append-assoc (piecesLex (w ∷ ws)) (sep equals ∷ []) (valueLex b (x ∷ v)))
+    (named-tokens w ws (w-first isPiece 3 w ws hw) (w-more isPiece 3 w ws hw) (w-most isPiece 3 w ws hw) (value-back b x v (search conjuncts)))
+place-back false (place b (w ∷ ws) v) h = absurd (false≢true h)
+place-back false (place b [] []) h = no-tokens b
+place-back false (place b [] (x ∷ v)) h = position-tokens (value-back b x v h)
 
 -- ---- the places of a block
 
@@ -231,51 +143,52 @@ pub record PlacesBack (k : Bool) (bs : List Base) (n : ℕ) (ns : List Name) (ss
   pub got : readPlaces k bs n ns ss ≡ ok xs
   pub are : map unplaced xs ≡ pl
 
-pub places-back : (k : Bool) (bs : List Base) (n : ℕ) (ns : List Name) (p : Place) (pl : List Place) (ps : List ℕ) (e : ℕ) → all (wfPlace k) (p ∷ pl) ≡ true
-    → n + length (p ∷ pl) ≤ 32 → Along bs n (map placeBase (p ∷ pl)) → fresh k ns (map placeName (p ∷ pl)) ≡ true
-    → PlacesBack k bs n ns (segs comma e ps (placeLex p) (map placeLex pl)) (p ∷ pl)
-places-back k bs n ns p [] ps e h hn ha hf =
-    let single : PlaceBack k bs n ns (seg (toks ps (placeLex p)) e) p = place-back k bs n ns p ps e (and-l (wfPlace k p) true h) (omega arith) (ha .0) (and-l (freeOf k ns (placeName p)) true hf) in
-    record { xs = placed (single .spot) p ∷ []; got = rw (single .got); are = refl }
-places-back k bs n ns p (p′ ∷ pl) ps e h hn ha hf =
-    let e′ : ℕ = hd (pastL (placeLex p) ps) in
-    let ps′ : List ℕ = tl (pastL (placeLex p) ps) in
-    let single : PlaceBack k bs n ns (seg (toks ps (placeLex p)) e′) p =
-    place-back k bs n ns p ps e′ (and-l (wfPlace k p) (all (wfPlace k) (p′ ∷ pl)) h) (omega arith) (ha .0)
-    (and-l (freeOf k ns (placeName p)) (fresh k (placeName p ∷ ns) (map placeName (p′ ∷ pl))) hf) in
-    let ih : PlacesBack k bs (suc n) (placeName p ∷ ns) (segs comma e ps′ (placeLex p′) (map placeLex pl)) (p′ ∷ pl) =
-    places-back k bs (suc n) (placeName p ∷ ns) p′ pl ps′ e (and-r (wfPlace k p) (all (wfPlace k) (p′ ∷ pl)) h) (omega arith) (ha .1)
-    (and-r (freeOf k ns (placeName p)) (fresh k (placeName p ∷ ns) (map placeName (p′ ∷ pl))) hf) in
-    record { xs = placed (single .spot) p ∷ ih .xs; got = rw (single .got, ih .got); are = ap (λ l. p ∷ l) (ih .are) }
+pub data PlacesTokens (k : Bool) : List Lex → List Place → Type 0 where
+  last : {xs : List Lex} {p : Place} → PlaceTokens k xs p → PlacesTokens k xs (p ∷ [])
+  next : {xs ys : List Lex} {p : Place} {ps : List Place} → PlaceTokens k xs p → PlacesTokens k ys ps → PlacesTokens k (xs ++ (sep comma ∷ ys)) (p ∷ ps)
+
+beq-refl : (k : Bool) → Bool·beq k k ≡ true
+beq-refl true = refl
+beq-refl false = refl
+
+place-read : {k : Bool} {xs : List Lex} {p : Place} (bs : List Base) (n : ℕ) (ns : List Name) (ps : List ℕ) (e : ℕ) (t : PlaceTokens k xs p) → n < 32
+    → getD bs n (plain rD) ≡ placeBase p → freeOf k ns (placeName p) ≡ true → readPlace k bs n ns (seg (toks ps xs) e) ≡ ok (placed (t .spot ps e) p)
+place-read {k} bs n ns ps e t hn hb hf = rw (lt-ltb n 32 hn, t .kind ps, beq-refl k, hb) (t .reads ps e ns hf)
+
+places-read : {xs : List Lex} {pl : List Place} (k : Bool) (bs : List Base) (n : ℕ) (ns : List Name) (ps : List ℕ) (e : ℕ) → PlacesTokens k xs pl → n + length pl ≤ 32
+    → Along bs n (map placeBase pl) → fresh k ns (map placeName pl) ≡ true → PlacesBack k bs n ns (split comma e (toks ps xs)) pl
+places-read k bs n ns ps e (last {xs = xs} {p = p} t) hn ha hf =
+    record {
+      xs = placed (t .spot ps e) p ∷ [];
+      got = rw (split-none comma e xs ps (t .free comma refl refl), place-read bs n ns ps e t (omega arith) (ha .0) (search conjuncts));
+      are = refl;
+    }
+places-read k bs n ns ps e (next {xs = xs} {ys = ys} {p = p} {ps = pl} t m) hn ha hf =
+    let e′ : ℕ = hd (pastL xs ps) in
+    let ps′ : List ℕ = tl (pastL xs ps) in
+    let ih : PlacesBack k bs (suc n) (placeName p ∷ ns) (split comma e (toks ps′ ys)) pl =
+    places-read k bs (suc n) (placeName p ∷ ns) ps′ e m (omega arith) (ha .1) (search conjuncts) in
+    record {
+      xs = placed (t .spot ps e′) p ∷ ih .xs;
+      got = rw (split-at comma e xs ys ps (t .free comma refl refl), place-read bs n ns ps e′ t (omega arith) (ha .0) (search conjuncts), ih .got);
+      are = ap (λ l. p ∷ l) (ih .are);
+    }
+
+places-free : {k : Bool} {xs : List Lex} {pl : List Place} (s : Sep) → isJoiner s ≡ false → noSep s (sep equals) ≡ true → noSep s (sep comma) ≡ true → PlacesTokens k xs pl
+    → all (noSep s) xs ≡ true
+places-free s h he hc (last t) = t .free s h he
+places-free s h he hc (next {xs = xs} {ys = ys} t m) = all-append (noSep s) xs (sep comma ∷ ys) (t .free s h he) (rw hc (places-free s h he hc m))
+
+places-kind : {k : Bool} {xs : List Lex} {pl : List Place} (ps : List ℕ) (e : ℕ) → PlacesTokens k xs pl → kindOf (split comma e (toks ps xs)) ≡ k
+places-kind ps e (last {xs = xs} t) = rw (split-none comma e xs ps (t .free comma refl refl)) (t .kind ps)
+places-kind ps e (next {xs = xs} {ys = ys} t m) = rw (split-at comma e xs ys ps (t .free comma refl refl)) (t .kind ps)
+
+pub places-back : (k : Bool) (p : Place) (pl : List Place) → all (wfPlace k) (p ∷ pl) ≡ true → PlacesTokens k (blockLex (block k (p ∷ pl))) (p ∷ pl)
+places-back k p [] h = rw (append-nil (placeLex p)) (last (place-back k p (search conjuncts)))
+places-back k p (q ∷ pl) h =
+    next (place-back k p (search conjuncts)) (places-back k q pl (search conjuncts))
 
 -- ---- blocks
-
-pub record BlockBack (bs : List Base) (n : ℕ) (ss : List Seg) (b : Block) : Type 0 where
-  pub x : PlacedBlock
-  pub got : readBlock bs n ss ≡ ok x
-  pub is : blockOf x ≡ b
-  pub many : blockSize x ≡ length (placesOf b)
-
-pub kind-is : (k : Bool) (p : Place) (pl : List (List Lex)) (ps : List ℕ) (e : ℕ) → wfPlace k p ≡ true → kindOf (segs comma e ps (placeLex p) pl) ≡ k
-kind-is k p [] ps e h = cut-place k p ps h
-kind-is k p (x ∷ xs) ps e h = cut-place k p ps h
-
-pub block-back : (bs : List Base) (n : ℕ) (b : Block) (ps : List ℕ) (e : ℕ) → wfBlock b ≡ true → n + length (placesOf b) ≤ 32 → Along bs n (map placeBase (placesOf b))
-    → BlockBack bs n (split comma e (toks ps (blockLex b))) b
-block-back bs n (block k []) ps e h hn ha = absurd (false≢true h)
-block-back bs n (block k (p ∷ pl)) ps e h hn ha =
-    let hp : all (wfPlace k) (p ∷ pl) ≡ true = block-places k (p ∷ pl) h in
-    let hf : fresh k [] (map placeName (p ∷ pl)) ≡ true = fresh-names k (map placeName (p ∷ pl)) (block-names k (p ∷ pl) h) in
-    let ih : PlacesBack k bs n [] (segs comma e ps (placeLex p) (map placeLex pl)) (p ∷ pl) = places-back k bs n [] p pl ps e hp hn ha hf in
-    let sp : split comma e (toks ps (blockLex (block k (p ∷ pl)))) ≡ segs comma e ps (placeLex p) (map placeLex pl) =
-    split-joined comma e (placeLex p) (map placeLex pl) ps (no-places comma refl refl k (p ∷ pl) hp) in
-    let kd : kindOf (segs comma e ps (placeLex p) (map placeLex pl)) ≡ k = kind-is k p (map placeLex pl) ps e (and-l (wfPlace k p) (all (wfPlace k) pl) hp) in
-    record {
-      x = placedBlock k (ih .xs);
-      got = rw (sp, kd, ih .got);
-      is = ap (λ l. block k l) (ih .are);
-      many = sym (length-map (ih .xs) unplaced) ∙ ap length (ih .are);
-    }
 
 pub along-split : (bs : List Base) (n : ℕ) (xs ys : List Base) → Along bs n (xs ++ ys) → Along bs n xs × Along bs (n + length xs) ys
 along-split bs n [] ys h = (tt, rw add-zero h)
@@ -284,34 +197,51 @@ along-split bs n (x ∷ xs) ys h =
     let q : n + suc (length xs) ≡ suc n + length xs = omega arith in
     ((h .0, ih .0), rw q (ih .1))
 
-pub record BlocksBack (bs : List Base) (m n q : ℕ) (ss : List Seg) (bl : List Block) : Type 0 where
-  pub xs : List PlacedBlock
-  pub got : readBlocks bs m n q ss ≡ ok xs
-  pub are : map blockOf xs ≡ bl
+pub data BlocksTokens : List Lex → List Block → Type 0 where
+  noBlocks : BlocksTokens [] []
+  aBlock : {k : Bool} {xs ys : List Lex} {pl : List Place} {bl : List Block} → PlacesTokens k xs pl → fresh k [] (map placeName pl) ≡ true → BlocksTokens ys bl
+      → BlocksTokens (sep colon ∷ (xs ++ ys)) (block k pl ∷ bl)
 
-pub blocks-back : (bs : List Base) (m n q : ℕ) (b : Block) (bl : List Block) (ps : List ℕ) (e : ℕ) → all wfBlock (b ∷ bl) ≡ true → m + length (b ∷ bl) ≤ 8
-    → n + length (allPlaces (b ∷ bl)) ≤ 32 → Along bs n (basesOf (b ∷ bl)) → BlocksBack bs m n q (segs colon e ps (blockLex b) (map blockLex bl)) (b ∷ bl)
-blocks-back bs m n q b [] ps e h hm hn ha =
-    let hn′ : n + length (placesOf b) ≤ 32 = omega (arith, length-append (placesOf b) []) in
-    let hs : Along bs n (map placeBase (placesOf b)) × Always = along-split bs n (map placeBase (placesOf b)) [] ha in
-    let single : BlockBack bs n (split comma e (toks ps (blockLex b))) b = block-back bs n b ps e (and-l (wfBlock b) true h) hn′ (hs .0) in
-    record { xs = single .x ∷ []; got = rw (lt-ltb m 8 (omega arith), single .got); are = ap (λ y. y ∷ []) (single .is) }
-blocks-back bs m n q b (b′ ∷ bl) ps e h hm hn ha =
-    let e′ : ℕ = hd (pastL (blockLex b) ps) in
-    let ps′ : List ℕ = tl (pastL (blockLex b) ps) in
-    let la : length (allPlaces (b ∷ b′ ∷ bl)) ≡ length (placesOf b) + length (allPlaces (b′ ∷ bl)) = length-append (placesOf b) (allPlaces (b′ ∷ bl)) in
-    let hs : Along bs n (map placeBase (placesOf b)) × Along bs (n + length (map placeBase (placesOf b))) (basesOf (b′ ∷ bl)) =
-    along-split bs n (map placeBase (placesOf b)) (basesOf (b′ ∷ bl)) ha in
-    let single : BlockBack bs n (split comma e′ (toks ps (blockLex b))) b =
-    block-back bs n b ps e′ (and-l (wfBlock b) (all wfBlock (b′ ∷ bl)) h) (omega arith) (hs .0) in
-    let ih : BlocksBack bs (suc m) (n + length (placesOf b)) e′ (segs colon e ps′ (blockLex b′) (map blockLex bl)) (b′ ∷ bl) =
-    blocks-back bs (suc m) (n + length (placesOf b)) e′ b′ bl ps′ e (and-r (wfBlock b) (all wfBlock (b′ ∷ bl)) h) (omega arith) (omega arith)
-    (rw length-map at (hs .1)) in
+blocks-free : {xs : List Lex} {bl : List Block} → BlocksTokens xs bl → all (noSep semi) xs ≡ true
+blocks-free noBlocks = refl
+blocks-free (aBlock {xs = xs} {ys = ys} t f m) = all-append (noSep semi) xs ys (places-free semi refl refl refl t) (blocks-free m)
+
+-- behind tokens zs without `:`
+record BlocksBack (bs : List Base) (m n : ℕ) (zs ys : List Lex) (ps : List ℕ) (e : ℕ) (bl : List Block) : Type 0 where
+  stop : ℕ
+  ss : List Seg
+  splits : split colon e (toks ps (zs ++ ys)) ≡ seg (toks ps zs) stop ∷ ss
+  xs : List PlacedBlock
+  got : (q : ℕ) → readBlocks bs m n q ss ≡ ok xs
+  are : map blockOf xs ≡ bl
+
+blocks-read : {ys : List Lex} {bl : List Block} (bs : List Base) (m n : ℕ) (zs : List Lex) (ps : List ℕ) (e : ℕ) → BlocksTokens ys bl → all (noSep colon) zs ≡ true
+    → m + length bl ≤ 8 → n + length (allPlaces bl) ≤ 32 → Along bs n (basesOf bl) → BlocksBack bs m n zs ys ps e bl
+blocks-read bs m n zs ps e noBlocks hz hm hn ha =
+    record { stop = e; ss = []; splits = rw (append-nil zs) (split-none colon e zs ps hz); xs = []; got = λ q. refl; are = refl }
+blocks-read bs m n zs ps e (aBlock {k = k} {xs = xs} {ys = ys} {pl = pl} {bl = bl} t f r) hz hm hn ha =
+    let ps′ : List ℕ = tl (pastL zs ps) in
+    let la : length (pl ++ allPlaces bl) ≡ length pl + length (allPlaces bl) = length-append pl (allPlaces bl) in
+    let hs : Along bs n (map placeBase pl) × Along bs (n + length (map placeBase pl)) (basesOf bl) = along-split bs n (map placeBase pl) (basesOf bl) ha in
+    let ih : BlocksBack bs (suc m) (n + length pl) xs ys ps′ e bl =
+    blocks-read bs (suc m) (n + length pl) xs ps′ e r (places-free colon refl refl refl t) (omega arith) (omega arith) (rw length-map at (hs .1)) in
+    let o : PlacesBack k bs n [] (split comma (ih .stop) (toks ps′ xs)) pl = places-read k bs n [] ps′ (ih .stop) t (omega arith) (hs .0) f in
+    let many : length (o .xs) ≡ length pl = sym (length-map (o .xs) unplaced) ∙ ap length (o .are) in
     record {
-      xs = single .x ∷ ih .xs;
-      got = rw (lt-ltb m 8 (omega arith), single .got, single .many, ih .got);
-      are = ap₂ (λ y l. y ∷ l) (single .is) (ih .are);
+      stop = hd (pastL zs ps);
+      ss = seg (toks ps′ xs) (ih .stop) ∷ ih .ss;
+      splits = split-at colon e zs (xs ++ ys) ps hz ∙ ap (λ l. seg (toks ps zs) (hd (pastL zs ps)) ∷ l) (ih .splits);
+      xs = placedBlock k (o .xs) ∷ ih .xs;
+      got = λ q. rw (lt-ltb m 8 (omega arith), places-kind ps′ (ih .stop) t, o .got, many, ih .got (ih .stop));
+      are = ap₂ (λ y l. block k y ∷ l) (o .are) (ih .are);
     }
+
+pub blocks-back : (bs : List Block) → all wfBlock bs ≡ true → BlocksTokens (moreLex colon (map blockLex bs)) bs
+blocks-back [] h = noBlocks
+blocks-back (block k [] ∷ bs) h = absurd (false≢true h)
+blocks-back (block k (p ∷ pl) ∷ bs) h =
+    let hb : wfBlock (block k (p ∷ pl)) ≡ true = search conjuncts in
+    aBlock (places-back k p pl (block-places k (p ∷ pl) hb)) (fresh-names k (map placeName (p ∷ pl)) (block-names k (p ∷ pl) hb)) (blocks-back bs (search conjuncts))
 
 -- ---- the running product
 
@@ -354,51 +284,39 @@ runningB-ok m (placedBlock k ps ∷ xs) h =
 
 -- ---- the command
 
--- what `wf` says
+-- what a well-formed command has
 module _ (c : List (List ℕ)) (bs : List Block) (h : wellFormed (command c bs) ≡ true) where
   pub c-code : wfPieces isIdentifier 2 c ≡ true
-  c-code = search parts
+  c-code = search conjuncts
 
   pub c-few : length bs ≤ 8
-  c-few = search parts
+  c-few = search conjuncts
 
   pub c-blocks : all wfBlock bs ≡ true
-  c-blocks = search parts
+  c-blocks = search conjuncts
 
   pub c-places : length (allPlaces bs) ≤ 32
-  c-places = search parts
+  c-places = search conjuncts
 
   pub c-count : mult (map placeCount (allPlaces bs)) ≤ 65535
-  c-count = search parts
+  c-count = search conjuncts
 
-pub segs-back : (base : List Base) (w : List ℕ) (ws : List (List ℕ)) (bs : List Block) (ps : List ℕ) (e : ℕ) → wellFormed (command (w ∷ ws) bs) ≡ true → Along base 0 (basesOf bs)
-    → readSegs base (segs colon e ps (piecesLex (w ∷ ws)) (map blockLex bs)) ≡ ok (command (w ∷ ws) bs)
-segs-back base w ws [] ps e h ha =
-    let hc : wfPieces isIdentifier 2 (w ∷ ws) ≡ true = c-code (w ∷ ws) [] h in
-    rw (pieces-back 8 isIdentifier e isIdentifier w ws 2 ps (w-first isIdentifier 2 w ws hc) (w-more isIdentifier 2 w ws hc) (w-most isIdentifier 2 w ws hc))
-segs-back base w ws (b ∷ bl) ps e h ha =
-    let hc : wfPieces isIdentifier 2 (w ∷ ws) ≡ true = c-code (w ∷ ws) (b ∷ bl) h in
+-- tokens of a code and of blocks are read to the command
+pub tokens-read : {ys : List Lex} {bl : List Block} (base : List Base) (n : ℕ) (w : List ℕ) (ws : List (List ℕ)) (ps : List ℕ) → isIdentifier w ≡ true → all isIdentifier ws ≡ true
+    → length ws ≤ 2 → BlocksTokens ys bl → length bl ≤ 8 → length (allPlaces bl) ≤ 32 → mult (map placeCount (allPlaces bl)) ≤ 65535 → Along base 0 (basesOf bl)
+    → readCut base n (cutAt semi (toks ps (piecesLex (w ∷ ws) ++ ys ++ (sep semi ∷ [])))) ≡ ok (command (w ∷ ws) bl)
+tokens-read {ys} {bl} base n w ws ps hw hs hl t hm hn hc ha =
     let N : List Lex = piecesLex (w ∷ ws) in
-    let e′ : ℕ = hd (pastL N ps) in
-    let all′ : BlocksBack base 0 0 e′ (segs colon e (tl (pastL N ps)) (blockLex b) (map blockLex bl)) (b ∷ bl) =
-    blocks-back base 0 0 e′ b bl (tl (pastL N ps)) e (c-blocks (w ∷ ws) (b ∷ bl) h) (omega (arith, c-few (w ∷ ws) (b ∷ bl) h))
-    (omega (arith, c-places (w ∷ ws) (b ∷ bl) h)) ha in
-    let fits : 1 * mult (map placeCount (allPlaces (map blockOf (all′ .xs)))) ≤ 65535 = rw (all′ .are) (omega (arith, c-count (w ∷ ws) (b ∷ bl) h)) in
-    rw (
-      pieces-back 8 isIdentifier e′ isIdentifier w ws 2 ps (w-first isIdentifier 2 w ws hc) (w-more isIdentifier 2 w ws hc) (w-most isIdentifier 2 w ws hc),
-      all′ .got,
-      runningB-ok 1 (all′ .xs) fits,
-      all′ .are,
-    )
+    let free : all (noSep semi) (N ++ ys) ≡ true = all-append (noSep semi) N ys (pieces-free semi refl ws) (blocks-free t) in
+    let q : ℕ = hd (pastL (N ++ ys) ps) in
+    let o : BlocksBack base 0 0 N ys ps q bl = blocks-read base 0 0 N ps q t (pieces-free colon refl ws) (omega arith) (omega arith) ha in
+    let fits : 1 * mult (map placeCount (allPlaces (map blockOf (o .xs)))) ≤ 65535 = rw (o .are) (omega arith) in
+    rw (cut-at semi 0 (N ++ ys) [] ps free, o .splits)
+    (rw (pieces-back 8 isIdentifier (o .stop) isIdentifier w ws 2 ps hw hs hl, o .got (o .stop), runningB-ok 1 (o .xs) fits, o .are))
 
 pub tokens-back : (base : List Base) (n : ℕ) (c : Command) (ps : List ℕ) → wellFormed c ≡ true → Along base 0 (allBases c) → readCut base n (cutAt semi (toks ps (commandLex c))) ≡ ok c
 tokens-back base n (command [] bs) ps h ha = absurd (false≢true h)
 tokens-back base n (command (w ∷ ws) bs) ps h ha =
-    let N : List Lex = piecesLex (w ∷ ws) in
-    let X : List Lex = N ++ moreLex colon (map blockLex bs) in
-    let hb : all wfBlock bs ≡ true = c-blocks (w ∷ ws) bs h in
-    let none-semi : all (noSep semi) X ≡ true =
-    all-append (noSep semi) N (moreLex colon (map blockLex bs)) (no-words semi refl ws) (no-more semi refl colon refl (map blockLex bs) (no-blocks semi refl refl refl bs hb)) in
-    let none-colon : all (all (noSep colon)) (N ∷ map blockLex bs) ≡ true = rw (no-words colon refl ws, no-blocks colon refl refl refl bs hb) in
-    let q : ℕ = hd (pastL X ps) in
-    rw (cut-at semi 0 X [] ps none-semi, split-joined colon q N (map blockLex bs) ps none-colon) (segs-back base w ws bs ps q h ha)
+    let hc : wfPieces isIdentifier 2 (w ∷ ws) ≡ true = c-code (w ∷ ws) bs h in
+    tokens-read base n w ws ps (w-first isIdentifier 2 w ws hc) (w-more isIdentifier 2 w ws hc) (w-most isIdentifier 2 w ws hc) (blocks-back bs (c-blocks (w ∷ ws) bs h))
+    (c-few (w ∷ ws) bs h) (c-places (w ∷ ws) bs h) (c-count (w ∷ ws) bs h) ha

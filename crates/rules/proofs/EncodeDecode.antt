@@ -5,9 +5,9 @@ use mathlib.Core.Path.{_≡_, subst}
 use mathlib.Core.Bool.{true, _&&_}
 use mathlib.Core.List.{List}
 use mathlib.Core.Option.{Option, none, some}
-use Rattle.laws.specs.Cases.{and-l, and-r}
+use Rattle.laws.specs.Cases.{and-l, conjuncts}
 use Rattle.laws.specs.Lists.{eqL, eqL-is, eqL-refl}
-use Rattle.rules.specs.Refusals.{ok, bad}
+use Rattle.rules.specs.Refusals.{ok}
 use Rattle.rules.specs.Commands.{Command}
 use Rattle.rules.specs.Records.{encode, decode}
 use Rattle.rules.specs.WellFormed.{wellFormed, judged, recordOf}
@@ -26,7 +26,7 @@ judged-is r (some d) c h =
     (λ t k.
     rw (← (ok-inj k)) (record {
       well = and-l (wellFormed d) (eqL (encode d) r) t;
-      bytes = eqL-is (encode d) r (and-r (wellFormed d) (eqL (encode d) r) t);
+      bytes = eqL-is (encode d) r (search conjuncts);
     }))
 
 pub record-is : (r : List ℕ) (c : Command) → recordOf r ≡ ok c → IsRecord r c

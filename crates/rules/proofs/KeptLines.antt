@@ -5,22 +5,20 @@ use mathlib.Core.Path.{_≡_, refl, sym, ap, subst, _∙_}
 use mathlib.Core.Bool.{Bool, true, false, false≢true}
 use mathlib.Core.List.{List, [], _∷_, _++_, append-nil}
 use native.Mathlib.Omega.{arith}
-use lib.Dec.{eqb, ltb, leb}
+use lib.Dec.{eqb, ltb}
 use lib.ListN.{length, take, length-append, length-take}
 use lib.Seq.{append-snoc, take-take, take-append-le, take-append-seam}
 use borrow.Author.Tests.{lt-ltb, ltb-true, ltb-false, eqb-true}
-use Rattle.laws.specs.Cases.{byBool, and-l, and-r}
+use Rattle.laws.specs.Cases.{byBool, and-l, and-r, conjuncts}
 use Rattle.laws.specs.Lists.{all, isNil}
-use Rattle.rules.specs.Refusals.{ok, bad}
+use Rattle.rules.specs.Refusals.{ok}
 use Rattle.rules.specs.Characters.{isPermitted}
-use Rattle.rules.specs.Tokens.{State, idle, step, run, firstOff, scan}
+use Rattle.rules.specs.Tokens.{State, idle, step}
 use Rattle.rules.specs.Commands.{Command}
-use Rattle.rules.specs.Reading.{readLetters, read}
+use Rattle.rules.specs.Reading.{read}
 use Rattle.rules.specs.Keeping.{stateOf, endsLine, readyFrom, ready, line, press, linePress, lineAfter}
-use Rattle.rules.proofs.ResultLaws.{ok≢bad, bind-ok}
-use Rattle.rules.proofs.NeverLonger.{read-most}
 use Rattle.rules.proofs.ReadyLine.{Begins, accepted-begins}
-use Rattle.rules.proofs.ScanSound.{off-none}
+use Rattle.rules.proofs.ReadSteps.{scan-read, command-read}
 
 -- ---- no proper beginning is ready
 
@@ -127,7 +125,7 @@ typed (c ∷ cs) bs h few ok′ =
     let e : linePress bs c ≡ bs ++ c ∷ [] = rw (permitted-no c 8 refl good, permitted-no c 24 refl good, r, lt-ltb (length bs) 1024 (omega (arith, long))) in
     let whole : bs ++ (c ∷ []) ++ cs ≡ bs ++ (c ∷ cs) = append-snoc bs c cs in
     ap (λ l. lineAfter l cs) e
-    ∙ typed cs (bs ++ c ∷ []) (subst Clear (sym whole) h) (rw whole few) (and-r (isPermitted c) (all isPermitted cs) ok′)
+    ∙ typed cs (bs ++ c ∷ []) (subst Clear (sym whole) h) (rw whole few) (search conjuncts)
     ∙ whole
 
 -- the bytes of a text that are typed: they are held as they are, and make the line ready
@@ -141,26 +139,17 @@ all-take f zero l h = refl
 all-take f (suc n) [] h = refl
 all-take f (suc n) (c ∷ cs) h = rw (and-l (f c) (all f cs) h) (all-take f n cs (and-r (f c) (all f cs) h))
 
-read-permitted : (letters text : List ℕ) (c : Command) → read letters text ≡ ok c → all isPermitted text ≡ true
-unfolding read scan
-read-permitted letters text c h =
-    bind-ok (readLetters 0 letters) _ c h
-    (λ bs _ k.
-    bind-ok (scan text) _ c k
-    (λ ts e _.
-    byBool (leb (length text) 1024)
-    (λ y. bind-ok (firstOff 0 text) (λ b. run idle 0 text) ts (rw (y, scan) at e) (λ b a _. off-none text 0 b a))
-    (λ y. ok≢bad (rw (y, scan) at e))))
-
 -- what the reader accepts can be typed
 pub accepted-typed : (letters text : List ℕ) (c : Command) → read letters text ≡ ok c → Typed text
 unfolding ready
 accepted-typed letters text c h =
     let b : Begins idle 0 text = accepted-begins letters text c h in
     let t : List ℕ = take (b .long) text in
-    let few : length t ≤ 1024 = omega (arith, length-take (b .long) text, read-most letters text c h) in
+    let r = command-read letters text c h in
+    let s = scan-read text (r .ts) (r .tokens) in
+    let few : length t ≤ 1024 = omega (arith, length-take (b .long) text, s .few) in
     record {
       long = b .long;
-      held = typed t [] (clear-ready t (b .is)) few (all-take isPermitted (b .long) text (read-permitted letters text c h));
+      held = typed t [] (clear-ready t (b .is)) few (all-take isPermitted (b .long) text (s .permitted));
       is = b .is;
     }

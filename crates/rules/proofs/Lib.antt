@@ -1,4 +1,5 @@
 pub mod ResultLaws
+pub mod ReadSteps
 pub mod FieldLaws
 pub mod Counts
 pub mod Names

@@ -2,8 +2,8 @@
 use mathlib.Core.Path.{_≡_, refl, sym, ap₂, _∙_, subst}
 use mathlib.Core.Bool.{Bool, true, false, _&&_, _||_, not, false≢true}
 use mathlib.Core.List.{List, [], _∷_, map}
-use Rattle.laws.specs.Cases.{byBool, and-l, and-r}
-use Rattle.laws.specs.Lists.{all, any, isNil, eqL, eqL-is, eqL-refl}
+use Rattle.laws.specs.Cases.{byBool, conjuncts}
+use Rattle.laws.specs.Lists.{all, any, isNil, eqL-is, eqL-refl}
 use Rattle.rules.specs.Commands.{Name, Place, block, placeName, sameName}
 use Rattle.rules.specs.WellFormed.{wfPlace, wfBlock, namesDiffer}
 
@@ -18,7 +18,7 @@ name-is [] [] h = refl
 name-is [] (y ∷ ys) h = absurd (false≢true h)
 name-is (x ∷ xs) [] h = absurd (false≢true h)
 name-is (x ∷ xs) (y ∷ ys) h =
-    ap₂ (λ a l. a ∷ l) (eqL-is x y (and-l (eqL x y) (sameName xs ys) h)) (name-is xs ys (and-r (eqL x y) (sameName xs ys) h))
+    ap₂ (λ a l. a ∷ l) (eqL-is x y (search conjuncts)) (name-is xs ys (search conjuncts))
 
 pub name-sym : (a b : Name) → sameName a b ≡ sameName b a
 name-sym a b =
@@ -53,34 +53,32 @@ clear-cons x xs (n ∷ ns) h =
     byBool (sameName n x)
     (λ y. absurd (false≢true (rw y at h)))
     (λ y.
-    let A : Bool = not (any (sameName n) xs) in
     let h′ : not (any (sameName n) xs) && clear ns (x ∷ xs) ≡ true = rw y at h in
-    let ih : (not (any (sameName x) ns) ≡ true) × (clear ns xs ≡ true) = clear-cons x xs ns (and-r A (clear ns (x ∷ xs)) h′) in
-    (rw (name-sym x n, y) (ih .0), rw (and-l A (clear ns (x ∷ xs)) h′) (ih .1)))
+    let ih : (not (any (sameName x) ns) ≡ true) × (clear ns xs ≡ true) = clear-cons x xs ns (search conjuncts) in
+    let free : not (any (sameName n) xs) ≡ true = search conjuncts in
+    (rw (name-sym x n, y) (ih .0), rw free (ih .1)))
 
 pub cons-clear : (x : Name) (xs ns : List Name) → not (any (sameName x) ns) ≡ true → clear ns xs ≡ true → clear ns (x ∷ xs) ≡ true
 cons-clear x xs [] h k = refl
 cons-clear x xs (n ∷ ns) h k =
     byBool (sameName x n)
     (λ y. absurd (false≢true (rw y at h)))
-    (λ y.
-    let A : Bool = not (any (sameName n) xs) in
-    rw (name-sym n x, y, and-l A (clear ns xs) k) (cons-clear x xs ns (rw y at h) (and-r A (clear ns xs) k)))
+    (λ y. let free : not (any (sameName n) xs) ≡ true = search conjuncts in rw (name-sym n x, y, free) (cons-clear x xs ns (rw y at h) (search conjuncts)))
 
 pub fresh-of : (ns xs : List Name) → clear ns xs ≡ true → namesDiffer xs ≡ true → fresh true ns xs ≡ true
 fresh-of ns [] h d = refl
 fresh-of ns (x ∷ xs) h d =
     let c : (not (any (sameName x) ns) ≡ true) × (clear ns xs ≡ true) = clear-cons x xs ns h in
-    let A : Bool = not (any (sameName x) xs) in
-    rw (c .0) (fresh-of (x ∷ ns) xs (rw (and-l A (namesDiffer xs) d) (c .1)) (and-r A (namesDiffer xs) d))
+    let free : not (any (sameName x) xs) ≡ true = search conjuncts in
+    rw (c .0) (fresh-of (x ∷ ns) xs (rw free (c .1)) (search conjuncts))
 
 pub fresh-is : (ns xs : List Name) → fresh true ns xs ≡ true → (namesDiffer xs ≡ true) × (clear ns xs ≡ true)
 fresh-is ns [] h = (refl, clear-none ns)
 fresh-is ns (x ∷ xs) h =
-    let F : Bool = not (any (sameName x) ns) in
-    let A : Bool = not (any (sameName x) xs) in
-    let ih : (namesDiffer xs ≡ true) × (clear (x ∷ ns) xs ≡ true) = fresh-is (x ∷ ns) xs (and-r F (fresh true (x ∷ ns) xs) h) in
-    (rw (and-l A (clear ns xs) (ih .1)) (ih .0), cons-clear x xs ns (and-l F (fresh true (x ∷ ns) xs) h) (and-r A (clear ns xs) (ih .1)))
+    let ih : (namesDiffer xs ≡ true) × (clear (x ∷ ns) xs ≡ true) = fresh-is (x ∷ ns) xs (search conjuncts) in
+    let behind : not (any (sameName x) xs) && clear ns xs ≡ true = ih .1 in
+    let free : not (any (sameName x) xs) ≡ true = search conjuncts in
+    (rw free (ih .0), cons-clear x xs ns (search conjuncts) (search conjuncts))
 
 pub fresh-none : (ns xs : List Name) → fresh false ns xs ≡ true
 fresh-none ns [] = refl
@@ -98,11 +96,10 @@ names-fresh false xs h = refl
 -- ---- what a well-formed block has
 
 pub block-places : (k : Bool) (ps : List Place) → wfBlock (block k ps) ≡ true → all (wfPlace k) ps ≡ true
-block-places k ps h =
-    and-r (not (isNil ps)) (all (wfPlace k) ps) (and-l (not (isNil ps) && all (wfPlace k) ps) (not k || namesDiffer (map placeName ps)) h)
+block-places k ps h = search conjuncts
 
 pub block-names : (k : Bool) (ps : List Place) → wfBlock (block k ps) ≡ true → not k || namesDiffer (map placeName ps) ≡ true
-block-names k ps h = and-r (not (isNil ps) && all (wfPlace k) ps) (not k || namesDiffer (map placeName ps)) h
+block-names k ps h = search conjuncts
 
 pub block-of : (k : Bool) (ps : List Place) → isNil ps ≡ false → all (wfPlace k) ps ≡ true → not k || namesDiffer (map placeName ps) ≡ true
     → wfBlock (block k ps) ≡ true

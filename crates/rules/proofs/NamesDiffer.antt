@@ -1,11 +1,11 @@
 -- M-102: in what is read no name stands twice in its block.
 use Prim.Native.Nat.{ℕ}
 use mathlib.Core.Path.{_≡_, subst}
-use mathlib.Core.Bool.{true, false, not, false≢true}
+use mathlib.Core.Bool.{true, not, false≢true}
 use mathlib.Core.List.{List, [], _∷_, _++_, map}
-use Rattle.laws.specs.Cases.{byBool, and-l, and-r}
+use Rattle.laws.specs.Cases.{byBool, conjuncts}
 use Rattle.laws.specs.Lists.{all, any, all-member}
-use Rattle.rules.specs.Commands.{Name, Place, Block, block, command, placeName, sameName}
+use Rattle.rules.specs.Commands.{Place, Block, block, command, placeName, sameName}
 use Rattle.rules.specs.Reading.{read}
 use Rattle.rules.specs.Refusals.{ok}
 use Rattle.rules.specs.WellFormed.{wfBlock, namesDiffer}
@@ -24,11 +24,9 @@ among nm (y ∷ ys) q zs h e =
 pub names-apart : (xs : List Place) (p : Place) (ys : List Place) (q : Place) (zs : List Place)
     → namesDiffer (map placeName (xs ++ (p ∷ (ys ++ (q ∷ zs))))) ≡ true → placeName p ≡ placeName q → ⊥
 names-apart [] p ys q zs h e =
-    let B : List Name = map placeName (ys ++ (q ∷ zs)) in
-    among (placeName p) ys q zs (and-l (not (any (sameName (placeName p)) B)) (namesDiffer B) h) e
+    among (placeName p) ys q zs (search conjuncts) e
 names-apart (x ∷ xs) p ys q zs h e =
-    let B : List Name = map placeName (xs ++ (p ∷ (ys ++ (q ∷ zs)))) in
-    names-apart xs p ys q zs (and-r (not (any (sameName (placeName x)) B)) (namesDiffer B) h) e
+    names-apart xs p ys q zs (search conjuncts) e
 
 pub names-differ : (letters text : List ℕ) (code : List (List ℕ)) (before : List Block) (xs : List Place) (p : Place) (ys : List Place) (q : Place)
     (zs : List Place) (behind : List Block)

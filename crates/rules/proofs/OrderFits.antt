@@ -2,26 +2,27 @@
 -- text (leading units in the last element that was printed in full, the last unit in its own element, a range's term below its upper end).
 use Prim.Native.Nat.{ℕ, zero, suc, _+_, _*_, _-_, _/_, _%_, _≤_, _<_}
 use mathlib.Core.Path.{_≡_, refl, ap, _∙_}
-use mathlib.Core.Bool.{Bool, true, false, not}
+use mathlib.Core.Bool.{Bool, true, false}
 use mathlib.Core.List.{List, [], _∷_, _++_, map}
 use native.Mathlib.Nat.{mod-lt, le-div-iff-mul-le, div-mul-le-self, le-trans}
 use native.Mathlib.Omega.{arith}
 use lib.Dec.{ltb}
 use lib.ListN.{length, length-append}
 use borrow.Author.Tests.{ltb-true, ltb-false, le-ltb}
-use Rattle.laws.specs.Cases.{byBool, and-l, and-r}
-use Rattle.laws.specs.Lists.{all, isNil}
+use Rattle.laws.specs.Cases.{byBool, conjuncts}
+use Rattle.laws.specs.Lists.{all}
 use Rattle.rules.specs.Tokens.{Sep, dash, comma, colon, semi, Lex, sep}
 use Rattle.rules.specs.Units.{Radix, Base, plain, sameBase, radixLetter, size, num}
 use Rattle.rules.specs.Commands.{Element, single, range, Place, place, Block, block, Command, command, leading, lastUnit, terms, sum, valueCount}
 use Rattle.rules.specs.WellFormed.{wellFormed, wfBlock, wfPlace, wfValue, wfRange}
-use Rattle.rules.specs.Printing.{digits, prefixed, tailLinks, fullLinks, laterLinks, restLinks, isShort, sameUnits, valueLex, moreLex, joinedLex, wordLex, nameLex, placeLex, blockLex, print}
+use Rattle.rules.specs.Printing.{digits, prefixed, tailLinks, fullLinks, laterLinks, restLinks, isShort, valueLex, moreLex, joinedLex, wordLex, nameLex, placeLex, blockLex, print}
 use Rattle.rules.specs.Orders.{termAt, argumentAt, valueAt, placeAt, back, blockAt, orderAt}
 use Rattle.rules.proofs.CommandBack.{c-blocks}
 use Rattle.rules.proofs.Counts.{count-pos}
 use Rattle.rules.proofs.DecodeEncode.{place-value}
-use Rattle.rules.proofs.DirectIsList.{range-ends, ranges-fine, places-fine}
-use Rattle.rules.proofs.NeverLonger.{rl, rl-append}
+use Rattle.rules.proofs.DirectIsList.{range-ends, ranges-fine}
+use Rattle.rules.proofs.Names.{block-places}
+use Rattle.rules.proofs.NeverLonger.{rl, rl-append, rl-cons}
 use Rattle.rules.proofs.Progression.{term-le}
 use Rattle.rules.proofs.UnitBack.{digits-low, digits-high, size-pos}
 use Rattle.rules.proofs.UnitLength.{lx}
@@ -36,9 +37,6 @@ digits-some k b n =
     (λ y. rw (digits-low k b n y) (omega arith))
     (λ y. rw (digits-high k b n y, length-append) (omega arith))
 
-pub div-fewer : (b m n : ℕ) → 0 < b → m ≤ n → m / b ≤ n / b
-div-fewer b m n p h = le-div-iff-mul-le p .1 (le-trans (div-mul-le-self m b) h)
-
 pub digits-fewer : (k b m n : ℕ) → 0 < b → m ≤ n → length (digits k b m) ≤ length (digits k b n)
 unfolding digits
 digits-fewer zero b m n p h = omega arith
@@ -48,7 +46,7 @@ digits-fewer (suc k) b m n p h =
     (λ y.
     let z : ltb n b ≡ false = le-ltb n b (omega (arith, ltb-false m b y)) in
     rw (digits-high k b m y, digits-high k b n z, length-append, length-append)
-    (omega (arith, digits-fewer k b (m / b) (n / b) p (div-fewer b m n p h))))
+    (omega (arith, digits-fewer k b (m / b) (n / b) p (le-div-iff-mul-le p .1 (le-trans (div-mul-le-self m b) h)))))
 
 pub prefixed-fewer : (t : Bool) (l : ℕ) (u w : List ℕ) → length u ≤ length w → length (prefixed t l u) ≤ length (prefixed t l w)
 prefixed-fewer true l u w h = h
@@ -75,25 +73,25 @@ module _ (b : Base) where
   short-or-full e e′ =
       byBool (isShort e e′)
       (λ y.
-      let same : leading e ≡ leading e′ = same-items (leading e) (leading e′) (and-r (not (isNil (leading e′))) (sameUnits (leading e) (leading e′)) y) in
+      let same : leading e ≡ leading e′ = same-items (leading e) (leading e′) (search conjuncts) in
       let w : wLead b (leading e) ≡ wLead b (leading e′) = ap (wLead b) same in
       rw y (omega arith))
       (λ y. rw y (omega (arith, full-links b e′)))
 
   pub argument-fits : (e : Element) (es : List Element) (k : ℕ) → all (wfRange b) (e ∷ es) ≡ true → k < sum (map terms (e ∷ es))
       → weight (argumentAt e es k) ≤ weight e + wL b (tailLinks e) + wL b (restLinks e es)
-  argument-fits e [] k h hk = omega (arith, term-fits e k (and-l (wfRange b e) true h) (omega arith))
+  argument-fits e [] k h hk = omega (arith, term-fits e k (search conjuncts) (omega arith))
   argument-fits e (e′ ∷ es) k h hk =
       let more : wL b (restLinks e (e′ ∷ es)) ≡ wL b (laterLinks (isShort e e′) e′) + wL b (restLinks e′ es)
       = wL-append b (laterLinks (isShort e e′) e′) (restLinks e′ es) in
       byBool (ltb k (terms e))
-      (λ y. rw (y, argumentAt) (omega (arith, term-fits e k (and-l (wfRange b e) (all (wfRange b) (e′ ∷ es)) h) (ltb-true k (terms e) y))))
+      (λ y. rw (y, argumentAt) (omega (arith, term-fits e k (search conjuncts) (ltb-true k (terms e) y))))
       (λ y.
       let le : terms e ≤ k = ltb-false k (terms e) y in
       rw (y, argumentAt)
       (omega (
         arith,
-        argument-fits e′ es (k - terms e) (and-r (wfRange b e) (all (wfRange b) (e′ ∷ es)) h) (omega arith),
+        argument-fits e′ es (k - terms e) (search conjuncts) (omega arith),
         short-or-full e e′,
       )))
 
@@ -150,25 +148,18 @@ module _ {A : Type 0} (f : A → ℕ → A × ℕ) (lex : A → List Lex) (good 
         rl-append (sep s ∷ lex a) (moreLex s (map lex as′)),
         rl-append (sep s ∷ []) (lex ((f a q) .0)),
         rl-append (sep s ∷ []) (lex a),
-        fits a q (and-l (good a) (all good as′) h),
-        more-fits as′ k (and-r (good a) (all good as′) h),
+        fits a q (search conjuncts),
+        more-fits as′ k (search conjuncts),
       )
 
   pub joined-fits : (as′ : List A) (k : ℕ) → all good as′ ≡ true → rl (joinedLex s (map lex ((back f as′ k) .0))) ≤ rl (joinedLex s (map lex as′))
   joined-fits [] k h = omega arith
   joined-fits (a ∷ as′) k h =
-      let q : ℕ = (back f as′ k) .1 in
-      let r : List A = (back f as′ k) .0 in
-      omega (
-        arith,
-        rl-append (lex ((f a q) .0)) (moreLex s (map lex r)),
-        rl-append (lex a) (moreLex s (map lex as′)),
-        fits a q (and-l (good a) (all good as′) h),
-        more-fits as′ k (and-r (good a) (all good as′) h),
-      )
+      let r : List A = (back f (a ∷ as′) k) .0 in
+      omega (arith, rl-cons (sep s) (joinedLex s (map lex r)), rl-cons (sep s) (joinedLex s (map lex (a ∷ as′))), more-fits (a ∷ as′) k h)
 
 pub block-fits : (b : Block) (k : ℕ) → wfBlock b ≡ true → rl (blockLex ((blockAt b k) .0)) ≤ rl (blockLex b)
-block-fits (block t ps) k h = joined-fits placeAt placeLex (wfPlace t) (place-fits t) comma ps k (places-fine t ps h)
+block-fits (block t ps) k h = joined-fits placeAt placeLex (wfPlace t) (place-fits t) comma ps k (block-places t ps h)
 
 pub order-fits : (c : Command) (k : ℕ) → wellFormed c ≡ true → length (print (orderAt c k)) ≤ length (print c)
 order-fits (command c bs) k h =

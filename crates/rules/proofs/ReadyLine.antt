@@ -9,7 +9,7 @@ use native.Mathlib.Omega.{arith}
 use lib.Dec.{leb, eqb}
 use lib.ListN.{length, take}
 use borrow.Author.Tests.{eqb-true}
-use Rattle.laws.specs.Cases.{Always, byBool, cond-both, cond-by, and-l, and-r}
+use Rattle.laws.specs.Cases.{Always, byBool, cond-both, cond-by, and-l, conjuncts}
 use Rattle.laws.specs.Keys.{anyOf}
 use Rattle.laws.specs.Lists.{isNil}
 use Rattle.rules.specs.Refusals.{Res, ok, bad}
@@ -18,8 +18,9 @@ use Rattle.rules.specs.Tokens.{semi, colon, plusplus, sep, Token, at, po
 use Rattle.rules.specs.Commands.{isSep, cut, uncut, cutAt, split, Command}
 use Rattle.rules.specs.Reading.{readLetters, read}
 use Rattle.rules.specs.Keeping.{stateOf, outside, endsLine, readyFrom, ready}
-use Rattle.rules.proofs.ResultLaws.{ok≢bad, bind-ok}
-use Rattle.rules.proofs.RefusalPlaces.{Comes, Whatever, bind-comes, comes-bad, Before, CutIn, cut-in, split-in, ofCommand, segs-come, letters-come}
+use Rattle.rules.proofs.ReadSteps.{scan-read, command-read}
+use Rattle.rules.proofs.ResultLaws.{ok≢bad}
+use Rattle.rules.proofs.RefusalPlaces.{Comes, Whatever, both-come, bind-comes, comes-bad, Before, CutIn, cut-in, split-in, ofCommand, segs-come, letters-come}
 use Rattle.rules.proofs.FromTheList.{scan-comes}
 
 -- ---- tokens without a `;`, and tokens with one, which is the last
@@ -54,14 +55,10 @@ sole-append (t ∷ ts) us h k =
 
 module _ (P : ℕ → ℕ → Type 0) where
   then-without : (r s : Res (List Token)) → Comes P Without r → Comes P Without s → Comes P Without (andThen r s)
-  then-without (bad n p) s h k = h
-  then-without (ok ts) (bad n p) h k = k
-  then-without (ok ts) (ok us) h k = without-append ts us h k
+  then-without = both-come P Without Without Without without-append
 
   then-sole : (r s : Res (List Token)) → Comes P Without r → Comes P Sole s → Comes P Sole (andThen r s)
-  then-sole (bad n p) s h k = h
-  then-sole (ok ts) (bad n p) h k = k
-  then-sole (ok ts) (ok us) h k = sole-append ts us h k
+  then-sole = both-come P Without Sole Sole sole-append
 
   then-nothing : (r : Res (List Token)) → Comes P Sole r → Comes P Sole (andThen r (ok []))
   then-nothing (bad n p) h = h
@@ -158,7 +155,7 @@ closing : (s : State) (p c : ℕ) (cs : List ℕ) → endsLine s c ≡ true → 
 closing s p c (d ∷ cs) h k = absurd (false≢true k)
 closing s p c [] h k =
     let o : outside s ≡ true = and-l (outside s) (eqb c 59) h in
-    let e : c ≡ 59 = eqb-true c 59 (and-r (outside s) (eqb c 59) h) in
+    let e : c ≡ 59 = eqb-true c 59 (search conjuncts) in
     rw (e, step-semi s p o)
     (then-nothing Other (andThen (flush s) (ok (at p (sep semi) ∷ []))) (then-sole Other (flush s) (ok (at p (sep semi) ∷ [])) (flush-without s o) refl))
 
@@ -281,26 +278,12 @@ begins-or (c ∷ cs) s p =
     (going Any Without (step s p c) (λ s′. run s′ (suc p) cs) (λ r t k i. then-without Any r t (any-without r k) i) (step-quiet s p c y) w))
     (begins-or cs (stateOf (step s p c)) (suc p)))
 
--- what is scanned was run
-scanned-run : {C : Type 0} (cs : List ℕ) (ts : List Token) → scan cs ≡ ok ts → (run idle 0 cs ≡ ok ts → C) → C
-unfolding scan
-scanned-run cs ts h k =
-    byBool (leb (length cs) 1024)
-    (λ y. bind-ok (firstOff 0 cs) (λ b. run idle 0 cs) ts (rw (y, scan) at h) (λ b _ e. k e))
-    (λ y. ok≢bad (rw (y, scan) at h))
-
 -- a text that the reader accepts has a ready beginning
 pub accepted-begins : (letters text : List ℕ) (c : Command) → read letters text ≡ ok c → Begins idle 0 text
-unfolding read
 accepted-begins letters text c h =
-    bind-ok (readLetters 0 letters) _ c h
-    (λ bs _ k.
-    bind-ok (scan text) _ c k
-    (λ ts e q.
-    scanned-run text ts e
-    (λ r.
+    let r = command-read letters text c h in
     ⊎-elim (λ b. b)
     (λ w.
-    let none : cutAt semi ts ≡ uncut = cut-without ts (rw r at w) in
-    ok≢bad (rw none at q))
-    (begins-or text idle 0))))
+    let none : cutAt semi (r .ts) ≡ uncut = cut-without (r .ts) (rw (scan-read text (r .ts) (r .tokens) .runs) at w) in
+    ok≢bad (rw none at (r .cut)))
+    (begins-or text idle 0)

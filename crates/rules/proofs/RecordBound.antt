@@ -1,7 +1,7 @@
 -- No well-formed record is longer than 65,536 bytes: every field is short, and of the values' numbers of elements, none above 64, the product is at most
 -- the number of orders, 65,535, so that at most 140 elements in all are not the first of their value.
 use Prim.Native.Nat.{ℕ, suc, _+_, _*_, _-_, _/_, _≤_, _<_}
-use mathlib.Core.Path.{_≡_, refl, ap}
+use mathlib.Core.Path.{_≡_, refl, ap, _∙_}
 use mathlib.Core.Bool.{Bool, true, false, cond, false≢true}
 use mathlib.Core.List.{List, [], _∷_, _++_, map}
 use native.Mathlib.Nat.{mul-le-mul-left, mul-le-mul-right}
@@ -9,7 +9,7 @@ use native.Mathlib.Omega.{arith}
 use lib.Dec.{ltb}
 use lib.ListN.{length, replicate}
 use borrow.Author.Tests.{ltb-true, ltb-false, leb-true}
-use Rattle.laws.specs.Cases.{byBool, and-l, and-r}
+use Rattle.laws.specs.Cases.{byBool, conjuncts}
 use Rattle.laws.specs.Lists.{all}
 use Rattle.rules.specs.Refusals.{mostWord, mostString, moreOfCode, moreOfName, mostBlocks, mostPlaces, mostLeading, mostElements, mostOrders}
 use Rattle.rules.specs.Characters.{byte}
@@ -20,12 +20,10 @@ use Rattle.rules.specs.Records.{field, fourBytes, unitField, elementFiel
 use Rattle.rules.proofs.CommandBack.{c-code, c-few, c-blocks, c-places, c-count, w-most}
 use Rattle.rules.proofs.Counts.{terms-pos}
 use Rattle.rules.proofs.DecodeEncode.{place-value}
-use Rattle.rules.proofs.DirectIsList.{places-fine}
+use Rattle.rules.proofs.Names.{block-places}
+use Rattle.rules.proofs.FieldLaws.{many-append}
 use Rattle.rules.proofs.TextBound.{fl, fl-append, fl-cons, pieceFields}
 use Rattle.rules.proofs.ValueBack.{ok-length, ok-lead, ok-last, v-lead, v-all, v-few}
-
--- the parts of a conjunction
-ruleset parts = (and-l, and-r, leb-true)
 
 -- ---- the most bytes
 
@@ -119,10 +117,10 @@ spread-up p q s h r = record { flat = omega (arith, r .flat); steep = omega (ari
 
 unit-size : (b : Base) (u : Unit) → wfUnit b u ≡ true → length (fieldBytes (unitField u)) ≤ mostUnit
 unit-size b (num r f v) h = omega arith
-unit-size b (keyed w) h = let k : length w ≤ mostWord = search parts in omega arith
-unit-size b (identifier w) h = let k : length w ≤ mostWord = search parts in omega arith
-unit-size b (symbolic w) h = let k : length w ≤ mostWord = search parts in omega arith
-unit-size b (text w) h = let k : length w ≤ mostString = search parts in omega arith
+unit-size b (keyed w) h = let k : length w ≤ mostWord = search conjuncts in omega arith
+unit-size b (identifier w) h = let k : length w ≤ mostWord = search conjuncts in omega arith
+unit-size b (symbolic w) h = let k : length w ≤ mostWord = search conjuncts in omega arith
+unit-size b (text w) h = let k : length w ≤ mostString = search conjuncts in omega arith
 
 module _ (b : Base) where
   -- leading units, and a last one
@@ -133,8 +131,8 @@ module _ (b : Base) where
       omega (
         arith,
         fl-cons (unitField i) (map unitField (l ++ (u ∷ []))),
-        unit-size b i (and-l (wfUnit b i) (all (wfUnit b) l) h),
-        units-size l u (and-r (wfUnit b i) (all (wfUnit b) l) h),
+        unit-size b i (search conjuncts),
+        units-size l u (search conjuncts),
       )
 
   element-size : (n : ℕ) (e : Element) → n ≤ mostLeading → wfElement b n e ≡ true → fl (elementFields e) ≤ mostElement
@@ -163,8 +161,8 @@ module _ (b : Base) where
       omega (
         arith,
         fl-append (elementFields e) (many elementFields es),
-        element-size n e k (and-l (wfElement b n e) (all (wfElement b n) es) h),
-        elements-size n es k (and-r (wfElement b n e) (all (wfElement b n) es) h),
+        element-size n e k (search conjuncts),
+        elements-size n es k (search conjuncts),
       )
 
 -- the number of a value's elements that are not its first
@@ -199,20 +197,20 @@ pieces-size t (w ∷ ws) h =
     omega (
       arith,
       fl-cons (field t w) (pieceFields t ws),
-      leb-true (length w) mostWord (and-l (short w) (all short ws) h),
-      pieces-size t ws (and-r (short w) (all short ws) h),
+      leb-true (length w) mostWord (search conjuncts),
+      pieces-size t ws (search conjuncts),
     )
 
 wf-pieces-size : (t : ℕ) (g : List ℕ → Bool) (most : ℕ) (ws : List (List ℕ)) → wfPieces g most ws ≡ true
     → fl (pieceFields t ws) ≤ mostPiece * suc most
 wf-pieces-size t g most [] h = absurd (false≢true h)
 wf-pieces-size t g most (w ∷ ws) h =
-    let s : all short (w ∷ ws) ≡ true = search parts in omega (arith, pieces-size t (w ∷ ws) s, w-most g most w ws h)
+    let s : all short (w ∷ ws) ≡ true = search conjuncts in omega (arith, pieces-size t (w ∷ ws) s, w-most g most w ws h)
 
 name-size : (k : Bool) (b : Base) (nm : List (List ℕ)) (v : List Element) → wfPlace k (place b nm v) ≡ true
     → fl (pieceFields 4 nm) ≤ mostPiece * suc moreOfName
 name-size true b nm v h =
-    let k : wfPieces isPiece moreOfName nm ≡ true = search parts in wf-pieces-size 4 isPiece moreOfName nm k
+    let k : wfPieces isPiece moreOfName nm ≡ true = search conjuncts in wf-pieces-size 4 isPiece moreOfName nm k
 name-size false b [] v h = omega arith
 name-size false b (w ∷ ws) v h = absurd (false≢true h)
 
@@ -249,24 +247,17 @@ place-held k (place b nm v) ps h r =
 places-held : (k : Bool) (ps rest : List Place) → all (wfPlace k) ps ≡ true → Held rest → Held (ps ++ rest)
 places-held k [] rest h r = r
 places-held k (p ∷ ps) rest h r =
-    place-held k p (ps ++ rest) (and-l (wfPlace k p) (all (wfPlace k) ps) h)
-    (places-held k ps rest (and-r (wfPlace k p) (all (wfPlace k) ps) h) r)
+    place-held k p (ps ++ rest) (search conjuncts)
+    (places-held k ps rest (search conjuncts) r)
 
 blocks-held : (bs : List Block) → all wfBlock bs ≡ true → Held (allPlaces bs)
 blocks-held [] h = record { more = 0; spread = record { flat = omega arith; steep = omega arith; steepest = omega arith }; size = omega arith }
 blocks-held (block k ps ∷ bs) h =
-    places-held k ps (allPlaces bs) (places-fine k ps (and-l (wfBlock (block k ps)) (all wfBlock bs) h))
-    (blocks-held bs (and-r (wfBlock (block k ps)) (all wfBlock bs) h))
+    places-held k ps (allPlaces bs) (block-places k ps (search conjuncts))
+    (blocks-held bs (search conjuncts))
 
 places-append : (ps qs : List Place) → fl (many placeFields (ps ++ qs)) ≡ fl (many placeFields ps) + fl (many placeFields qs)
-places-append [] qs = omega arith
-places-append (p ∷ ps) qs =
-    omega (
-      arith,
-      fl-append (placeFields p) (many placeFields (ps ++ qs)),
-      fl-append (placeFields p) (many placeFields ps),
-      places-append ps qs,
-    )
+places-append ps qs = ap fl (many-append placeFields ps qs) ∙ fl-append (many placeFields ps) (many placeFields qs)
 
 -- a block adds its own field to its places
 blocks-size : (bs : List Block) → fl (many blockFields bs) ≡ (fieldHead + 1) * length bs + fl (many placeFields (allPlaces bs))

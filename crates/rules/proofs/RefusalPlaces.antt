@@ -13,11 +13,12 @@ use Rattle.laws.specs.Keys.{anyOf}
 use Rattle.laws.specs.Lists.{any, isNil}
 use Rattle.rules.specs.Refusals.{Res, ok, bad, _>>=_, mapR, guard}
 use Rattle.rules.specs.Characters.{isWordChar, isEffector, isPermitted}
-use Rattle.rules.specs.Tokens.{Sep, ampamp-, ampamp, amp-, amp, plusplus, dash, comma, colon, equals, sepCode, Lex, word, str, sep, Token, at, posOf, lexOf, State, idle, inWord, inPlus, oneAmp, twoAmp, slash, comment, star, inStr, quote, wordMost, wordToken, strToken, wordTokens, flush, andThen, Step, stay, emit, fresh, after, end, step, next, run, firstOff}
+use Rattle.rules.specs.Tokens.{Sep, ampamp-, ampamp, amp-, amp, plusplus, dash, comma, colon, equals, sepCode, Lex, word, str, sep, Token, at, posOf, lexOf, State, idle, inWord, inPlus, oneAmp, twoAmp, slash, comment, star, inStr, quote, wordMost, wordToken, wordTokens, flush, andThen, Step, stay, emit, fresh, after, end, step, next, run, firstOff}
 use Rattle.rules.specs.Units.{Radix, rD, Base, plain, baseOf, Unit, num, keyed, identifier, symbolic, text, numeral, limited, orElse, isIdentifier, isSymbolicName, named, withMark, readWord, readUnit}
-use Rattle.rules.specs.Commands.{Name, Element, range, place, placeName, sameName, leading, placeCount, valueCount, isSep, first, Seg, seg, consHead, split, Cut, cut, uncut, consCut, cutAt, isCut, piece, pieces, isPiece}
-use Rattle.rules.specs.Groups.{Join, join, Want, unitAfter, joiner, isUnit, joinerOf, alternate, readUnits, Group, group, Collected, collected, collectOne, beginsJ, collect, groupsOf, Arg, arg, consArg, fullArg, sepAt, noMore, incOf, endOf, increment, ends, upper, firstArg, laterArg, later, laterElements, elements, readValue}
+use Rattle.rules.specs.Commands.{Name, Element, range, place, placeName, sameName, leading, placeCount, valueCount, isSep, first, Seg, seg, split, Cut, cut, uncut, cutAt, isCut, piece, pieces, isPiece}
+use Rattle.rules.specs.Groups.{Join, join, Want, unitAfter, joiner, isUnit, joinerOf, alternate, readUnits, Group, group, Collected, collected, collectOne, beginsJ, collect, groupsOf, Arg, arg, fullArg, sepAt, noMore, incOf, endOf, increment, ends, upper, firstArg, laterArg, later, laterElements, elements, readValue}
 use Rattle.rules.specs.Reading.{Placed, placed, unplaced, readPosition, readNamed, readOfKind, readPlace, readPlaces, kindOf, PlacedBlock, placedBlock, blockSize, readBlock, readBlocks, running, runningBlocks, readSegs, readCut, readLetters}
+use Rattle.rules.proofs.ReadSteps.{Splits, lastSeg, endSeg, inSeg, splits, Cuts, noCut, cutHere, cutLater, cuts, Full, last, joined, full-read}
 
 -- ---- a property of every outcome
 
@@ -54,6 +55,12 @@ comes-more P Q R (bad n p) h k = h
 pub comes-self : {A : Type 0} (P : ℕ → ℕ → Type 0) (Q : A → Type 0) (r : Res A) → Comes P Q r → Comes P (λ a. r ≡ ok a) r
 comes-self P Q (ok a) h = refl
 comes-self P Q (bad n p) h = h
+
+pub both-come : (P : ℕ → ℕ → Type 0) (Q R S : List Token → Type 0) → ((ts us : List Token) → Q ts → R us → S (ts ++ us)) → (a b : Res (List Token))
+    → Comes P Q a → Comes P R b → Comes P S (andThen a b)
+both-come P Q R S f (bad n p) b h k = h
+both-come P Q R S f (ok ts) (bad n p) h k = k
+both-come P Q R S f (ok ts) (ok us) h k = f ts us h k
 
 -- ---- what stands before m
 
@@ -128,27 +135,21 @@ module _ (m : ℕ) where
   first-in [] e h k = k
   first-in (t ∷ ts) e h k = h .0
 
-  pub head-in : (t : Token) (ss : List Seg) → posOf t < m → SegsIn m ss → SegsIn m (consHead t ss)
-  head-in t [] h k = tt
-  head-in t (seg us e ∷ ss) h k = ((h, k .0), k .1, k .2)
+  splits-in : {s : Sep} {e : ℕ} {ts : List Token} {ss : List Seg} → e < m → Splits s e ts ss → Before m ts → SegsIn m ss
+  splits-in h lastSeg k = (tt, h, tt)
+  splits-in h (endSeg r) k = (tt, k .0, splits-in h r (k .1))
+  splits-in h (inSeg r) k = let i = splits-in h r (k .1) in ((k .0, i .0), i .1, i .2)
 
   pub split-in : (s : Sep) (e : ℕ) (ts : List Token) → e < m → Before m ts → SegsIn m (split s e ts)
-  split-in s e [] h k = (tt, h, tt)
-  split-in s e (t ∷ ts) h k =
-      byBool (isSep s (lexOf t))
-      (λ y. rw (y, split) (tt, k .0, split-in s e ts h (k .1)))
-      (λ y. rw (y, split) (head-in t (split s e ts) (k .0) (split-in s e ts h (k .1))))
+  split-in s e ts h k = splits-in h (splits s e ts) k
 
-  pub cons-cut-in : (t : Token) (c : Cut) → posOf t < m → CutIn m c → CutIn m (consCut t c)
-  cons-cut-in t uncut h k = tt
-  cons-cut-in t (cut a p b) h k = ((h, k .0), k .1, k .2)
+  cuts-in : {s : Sep} {ts : List Token} {c : Cut} → Cuts s ts c → Before m ts → CutIn m c
+  cuts-in noCut k = tt
+  cuts-in cutHere k = (tt, k .0, k .1)
+  cuts-in (cutLater r) k = let i = cuts-in r (k .1) in ((k .0, i .0), i .1, i .2)
 
   pub cut-in : (s : Sep) (ts : List Token) → Before m ts → CutIn m (cutAt s ts)
-  cut-in s [] k = tt
-  cut-in s (t ∷ ts) k =
-      byBool (isSep s (lexOf t))
-      (λ y. rw (y, cutAt) (tt, k .0, k .1))
-      (λ y. rw (y, cutAt) (cons-cut-in t (cutAt s ts) (k .0) (cut-in s ts (k .1))))
+  cut-in s ts k = cuts-in (cuts s ts) k
 
   pub collect-one-in : (t : Bool) (j : Join Unit) (c : Collected) → JoinsIn m (j ∷ []) → CollectedIn m c → CollectedIn m (collectOne t j c)
   collect-one-in true (join s q p i) (collected pre gs) h k = (tt, (h .0, h .1, k .0, k .1))
@@ -162,15 +163,9 @@ module _ (m : ℕ) where
   pub groups-in : (c : Collected) → CollectedIn m c → GroupsIn m (groupsOf c)
   groups-in (collected pre gs) h = h .1
 
-  pub cons-arg-in : (i : Unit) (a : Arg) → ArgIn m a → ArgIn m (consArg i a)
-  cons-arg-in i (arg l u r) h = h
-
-  pub full-arg-in : (i : Unit) (js : List (Join Unit)) → JoinsIn m js → ArgIn m (fullArg i js)
-  full-arg-in i [] h = tt
-  full-arg-in i (join s q p j ∷ js) h =
-      byBool (eqb (sepCode s) (sepCode dash))
-      (λ y. rw (y, fullArg) (cons-arg-in i (fullArg j js) (full-arg-in j js (h .2))))
-      (λ y. rw (y, fullArg) h)
+  pub full-arg-in : {i : Unit} {js : List (Join Unit)} {a : Arg} → Full i js a → JoinsIn m js → ArgIn m a
+  full-arg-in last h = h
+  full-arg-in (joined f) h = full-arg-in f (h .2)
 
   pub sep-at-in : (n : ℕ) (js : List (Join Unit)) → 0 < m → JoinsIn m js → sepAt n js < m
   sep-at-in n [] z h = z
@@ -205,9 +200,6 @@ module _ (P : ℕ → ℕ → Type 0) (m : ℕ) (hit : (n p : ℕ) → anyOf ofT
   pub word-comes : (p : ℕ) (w : List ℕ) → p < m → Comes P (Before m) (wordToken p w)
   word-comes p w h = cond-both (Comes P (Before m)) (leb (length w) (wordMost w)) (h, tt) (hit 15 p refl h)
 
-  pub str-comes : (p : ℕ) (w : List ℕ) → p < m → Comes P (Before m) (strToken p w)
-  str-comes p w h = cond-both (Comes P (Before m)) (leb (length w) 80) (h, tt) (hit 15 p refl h)
-
   pub words-comes : (p : ℕ) (w : List ℕ) → p < m → Comes P (Before m) (wordTokens p w)
   words-comes p [] h = tt
   words-comes p (c ∷ w) h = word-comes p (reverse (c ∷ w)) h
@@ -222,12 +214,10 @@ module _ (P : ℕ → ℕ → Type 0) (m : ℕ) (hit : (n p : ℕ) → anyOf ofT
   flush-comes (comment p) i = hit 4 p refl i
   flush-comes (star p) i = hit 4 p refl i
   flush-comes (inStr p w) i = hit 4 p refl i
-  flush-comes (quote p w) i = str-comes p (reverse w) i
+  flush-comes (quote p w) i = cond-both (Comes P (Before m)) (leb (length (reverse w)) 80) (i, tt) (hit 15 p refl i)
 
   pub then-comes : (a b : Res (List Token)) → Comes P (Before m) a → Comes P (Before m) b → Comes P (Before m) (andThen a b)
-  then-comes (bad n p) b h k = h
-  then-comes (ok ts) (bad n p) h k = k
-  then-comes (ok ts) (ok us) h k = before-append m ts us h k
+  then-comes = both-come P (Before m) (Before m) (Before m) (before-append m)
 
   pub fresh-comes : (p c : ℕ) → p < m → StepIn P m (fresh p c)
   fresh-comes p c h =
@@ -387,7 +377,7 @@ module _ (P : ℕ → ℕ → Type 0) (m : ℕ) (hit : (n p : ℕ) → anyOf ofC
       byBool (isNil l₀)
       (λ z. rw (y, later) (rw (z, later) (hit 14 q refl (h .0))))
       (λ z. rw (y, later) (rw (z, later) (upper-comes l₀ i js (h .2)))))
-      (λ y. rw (y, later) (later-arg-comes l₀ p (fullArg i js) (h .1) (full-arg-in m i js (h .2))))
+      (λ y. rw (y, later) (later-arg-comes l₀ p (fullArg i js) (h .1) (full-arg-in m (full-read i js) (h .2))))
 
   pub later-elements-come : (n : ℕ) (l₀ : List Unit) (gs : List Group) → GroupsIn m gs → Comes P Whatever (laterElements n l₀ gs)
   later-elements-come n l₀ [] h = tt
@@ -405,7 +395,7 @@ module _ (P : ℕ → ℕ → Type 0) (m : ℕ) (hit : (n p : ℕ) → anyOf ofC
   elements-come [] z h = tt
   elements-come (group s q p i js ∷ gs) z h =
       bind-comes P Whatever Whatever (firstArg js (fullArg i js)) (λ e. mapR (λ es. e ∷ es) (laterElements 2 (leading e) gs))
-      (first-arg-comes js (fullArg i js) z (h .2) (full-arg-in m i js (h .2)))
+      (first-arg-comes js (fullArg i js) z (h .2) (full-arg-in m (full-read i js) (h .2)))
       (λ e y. map-comes P Whatever Whatever (λ es. e ∷ es) (laterElements 2 (leading e) gs) (later-elements-come 2 (leading e) gs (h .3)) (λ a b. tt))
 
   -- 11 to 16: a value

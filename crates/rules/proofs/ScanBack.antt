@@ -9,7 +9,7 @@ use native.Mathlib.Omega.{arith}
 use lib.Dec.{leb, eqb}
 use lib.ListN.{length, length-append}
 use borrow.Author.Tests.{eqb-true, not-true}
-use Rattle.laws.specs.Cases.{byBool, and-l, and-r}
+use Rattle.laws.specs.Cases.{byBool, and-l, and-r, conjuncts}
 use Rattle.laws.specs.Lists.{all}
 use Rattle.rules.specs.Characters.{isWordChar, isEffector, isPermitted}
 use Rattle.rules.specs.Printing.{doubled, lexText, render}
@@ -69,12 +69,12 @@ pub settleW : (q a : ℕ) (acc : List ℕ) (p : ℕ) (rest : List ℕ) → endsW
     → run (inWord q (a ∷ acc)) p rest ≡ andThen (wordToken q (reverseAux acc (a ∷ []))) (run idle p rest)
 settleW q a acc p [] h = then-nil (wordToken q (reverseAux acc (a ∷ [])))
 settleW q a acc p (c ∷ []) h =
-    let nw : isWordChar c ≡ false = not-true (isWordChar c) (and-l _ _ h) in
+    let nw : isWordChar c ≡ false = not-true (isWordChar c) (search conjuncts) in
     byBool (eqb c 43)
     (λ e. absurd (false≢true (rw (nw, e) at h)))
     (λ e. ended p c [] (inWord q (a ∷ acc)) (stepW-end q (a ∷ acc) p c nw e (not-true (isEffector c) (rw (nw, e) at h))))
 settleW q a acc p (c ∷ d ∷ cs) h =
-    let nw : isWordChar c ≡ false = not-true (isWordChar c) (and-l _ _ h) in
+    let nw : isWordChar c ≡ false = not-true (isWordChar c) (search conjuncts) in
     byBool (eqb c 43)
     (λ e.
     let e2 : eqb d 43 ≡ true = rw (nw, e) at h in
@@ -86,7 +86,7 @@ pub settleP : (q : ℕ) (acc : List ℕ) (r p : ℕ) (rest : List ℕ) → endsW
     → run (inPlus q acc r) p rest ≡ andThen (wordToken q (reverseAux acc (43 ∷ []))) (run idle p rest)
 settleP q acc r p [] h = then-nil (wordToken q (reverseAux acc (43 ∷ [])))
 settleP q acc r p (c ∷ cs) h =
-    let nw : isWordChar c ≡ false = not-true (isWordChar c) (and-l _ _ h) in
+    let nw : isWordChar c ≡ false = not-true (isWordChar c) (search conjuncts) in
     byBool (eqb c 43)
     (λ e. absurd (false≢true (rw (nw, e) at h)))
     (λ e. ended p c cs (inPlus q acc r) (stepP-end q acc r p c nw e (not-true (isEffector c) (rw (nw, e) at h))))
@@ -101,8 +101,8 @@ module _ (q : ℕ) (rest : List ℕ) (e : ℕ) where
         (λ y. rw y (wordRun cs c (a ∷ acc) (suc p) (omega arith) (rw y at h) (rw y at hr)))
         (λ y.
         let h′ : (eqb c 43 && true) && wordChars true cs ≡ true = rw y at h in
-        rw (eqb-true c 43 (and-l (eqb c 43) true (and-l (eqb c 43 && true) (wordChars true cs) h′)))
-        (plusRun cs (a ∷ acc) p (suc p) (omega arith) (and-r (eqb c 43 && true) (wordChars true cs) h′) (rw y at hr)))
+        rw (eqb-true c 43 (search conjuncts))
+        (plusRun cs (a ∷ acc) p (suc p) (omega arith) (search conjuncts) (rw y at hr)))
 
     pub plusRun : (cs : List ℕ) (acc : List ℕ) (r p : ℕ) → e ≡ p + length cs → wordChars true cs ≡ true → endsWord (lastPlus true cs) rest ≡ true
         → run (inPlus q acc r) p (cs ++ rest) ≡ andThen (wordToken q (reverseAux acc (43 ∷ cs))) (run idle e rest)
@@ -112,7 +112,7 @@ module _ (q : ℕ) (rest : List ℕ) (e : ℕ) where
         (λ y. rw y (wordRun cs c (43 ∷ acc) (suc p) (omega arith) (rw y at h) (rw y at hr)))
         (λ y.
         let h′ : (eqb c 43 && false) && wordChars true cs ≡ true = rw y at h in
-        absurd (false≢true (and-r (eqb c 43) false (and-l (eqb c 43 && false) (wordChars true cs) h′))))
+        absurd (false≢true (search conjuncts)))
 
 -- ---- a string
 
@@ -168,28 +168,25 @@ separated (x ∷ xs) = okLex x && parts x (render xs) && separated xs
 pub settleA : (q p : ℕ) (rest : List ℕ) → parts (sep amp) rest ≡ true → run (oneAmp q) p rest ≡ andThen (ok (at q (sep amp) ∷ [])) (run idle p rest)
 settleA q p [] h = refl
 settleA q p (c ∷ cs) h =
-    let a : Bool = not (eqb c 38) in
-    let b : Bool = not (eqb c 45) in
-    let d : Bool = not (isEffector c) in
-    let h1 : a && b ≡ true = and-l (a && b) d h in
-    ended p c cs (oneAmp q)
-    (rw (not-true (eqb c 38) (and-l a b h1), not-true (eqb c 45) (and-r a b h1), not-true (isEffector c) (and-r (a && b) d h)))
+    let one : eqb c 38 ≡ false = search conjuncts in
+    let two : eqb c 45 ≡ false = search conjuncts in
+    let seen : isEffector c ≡ false = search conjuncts in
+    ended p c cs (oneAmp q) (rw (one, two, seen))
 
 pub settleAA : (q p : ℕ) (rest : List ℕ) → parts (sep ampamp) rest ≡ true
     → run (twoAmp q) p rest ≡ andThen (ok (at q (sep ampamp) ∷ [])) (run idle p rest)
 settleAA q p [] h = refl
 settleAA q p (c ∷ cs) h =
-    let b : Bool = not (eqb c 45) in
-    let d : Bool = not (isEffector c) in
-    ended p c cs (twoAmp q) (rw (not-true (eqb c 45) (and-l b d h), not-true (isEffector c) (and-r b d h)))
+    let two : eqb c 45 ≡ false = search conjuncts in
+    let seen : isEffector c ≡ false = search conjuncts in
+    ended p c cs (twoAmp q) (rw (two, seen))
 
 pub one-token : (x : Lex) (p : ℕ) (rest : List ℕ) → okLex x ≡ true → parts x rest ≡ true
     → run idle p (lexText x ++ rest) ≡ andThen (ok (at p x ∷ [])) (run idle (p + length (lexText x)) rest)
 one-token (word []) p rest h hr = absurd (false≢true h)
 one-token (word (c ∷ cs)) p rest h hr =
-    let short : Bool = leb (length (c ∷ cs)) (wordMost (c ∷ cs)) in
-    let hl : short ≡ true = and-r (wordChars false (c ∷ cs)) short h in
-    let hc : wordChars false (c ∷ cs) ≡ true = and-l (wordChars false (c ∷ cs)) short h in
+    let hl : leb (length (c ∷ cs)) (wordMost (c ∷ cs)) ≡ true = search conjuncts in
+    let hc : wordChars false (c ∷ cs) ≡ true = search conjuncts in
     let tok : wordToken p (c ∷ cs) ≡ ok (at p (word (c ∷ cs)) ∷ []) = rw hl in
     rw (← tok)
     (byBool (isWordChar c)
@@ -215,7 +212,4 @@ one-token (sep semi) p rest h hr = rw add-one
 pub scan-render : (xs : List Lex) (p : ℕ) → separated xs ≡ true → run idle p (render xs) ≡ ok (placeAll p xs)
 scan-render [] p h = refl
 scan-render (x ∷ xs) p h =
-    let h1 : okLex x && parts x (render xs) ≡ true = and-l (okLex x && parts x (render xs)) (separated xs) h in
-    let h2 : separated xs ≡ true = and-r (okLex x && parts x (render xs)) (separated xs) h in
-    one-token x p (render xs) (and-l (okLex x) (parts x (render xs)) h1) (and-r (okLex x) (parts x (render xs)) h1)
-    ∙ rw (scan-render xs (p + length (lexText x)) h2)
+    one-token x p (render xs) (search conjuncts) (search conjuncts) ∙ rw (scan-render xs (p + length (lexText x)) (search conjuncts))

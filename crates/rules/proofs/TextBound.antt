@@ -2,27 +2,28 @@
 -- separator before it, and a range's field for its upper end and its increment.
 use Prim.Native.Nat.{ℕ, zero, suc, _+_, _*_, _/_, _^_, _≤_}
 use mathlib.Core.Path.{_≡_, refl, ap, _∙_}
-use mathlib.Core.Bool.{Bool, true, false, cond, _&&_, false≢true}
+use mathlib.Core.Bool.{Bool, true, false, cond, false≢true}
 use mathlib.Core.List.{List, [], _∷_, _++_, map}
 use native.Mathlib.Omega.{arith}
-use lib.Dec.{ltb, leb, eqb}
+use lib.Dec.{eqb}
 use lib.ListN.{length, length-append}
 use borrow.Author.Tests.{leb-true}
-use Rattle.laws.specs.Cases.{byBool, and-l, and-r}
+use Rattle.laws.specs.Cases.{byBool, conjuncts}
 use Rattle.laws.specs.Lists.{all}
 use Rattle.rules.specs.Refusals.{ok}
 use Rattle.rules.specs.Tokens.{Sep, dash, comma, colon, equals, semi, Lex, word, sep}
-use Rattle.rules.specs.Units.{Radix, Base, plain, keys, letter, radixLetter, size, sameBase, allowed, Unit, num, keyed, identifier, symbolic, text, isIdentifier}
+use Rattle.rules.specs.Units.{Radix, Base, plain, keys, letter, radixLetter, size, sameBase, Unit, num, keyed, identifier, symbolic, text, isIdentifier}
 use Rattle.rules.specs.Commands.{Element, single, range, Place, place, Block, block, Command, command, leading, lastUnit}
-use Rattle.rules.specs.WellFormed.{isDecimal, okFraction, wfUnit, wfElement, wfValue, wfPieces, wfPlace, wfBlock, wellFormed, recordOf}
+use Rattle.rules.specs.WellFormed.{okFraction, wfUnit, wfElement, wfValue, wfPieces, wfPlace, wfBlock, wellFormed, recordOf}
 use Rattle.rules.specs.Records.{Field, field, fourBytes, unitField, elementFields, many, placeFields, blockFields, fieldBytes, bytesOf, encode}
 use Rattle.rules.specs.Printing.{digits, digitsOf, mostDigits, numText, doubled, incLinks, tailLinks, fullLinks, laterLinks, restLinks, isShort, valueLex, moreLex, joinedLex, wordLex, nameLex, placeLex, blockLex, sepText, print}
 use Rattle.rules.proofs.CommandBack.{c-code, c-blocks}
 use Rattle.rules.proofs.DecodeEncode.{place-value}
-use Rattle.rules.proofs.DirectIsList.{places-fine}
+use Rattle.rules.proofs.Names.{block-places}
 use Rattle.rules.proofs.EncodeDecode.{record-is}
+use Rattle.rules.proofs.FieldLaws.{bytes-append}
 use Rattle.rules.proofs.NeverLonger.{rl, rl-append, rl-cons, joined-len}
-use Rattle.rules.proofs.UnitBack.{digits-low, digits-high, of-length}
+use Rattle.rules.proofs.UnitBack.{digits-most, of-length}
 use Rattle.rules.proofs.UnitLength.{lx, prefixed-length}
 use Rattle.rules.proofs.ValueBack.{v-all, ok-lead, ok-last}
 use Rattle.rules.proofs.ValueLength.{wLead, wL, wL-append, full-links, printed}
@@ -32,23 +33,12 @@ abbrev pub fl : List Field → ℕ
 fl fs = length (bytesOf fs)
 
 pub fl-append : (xs ys : List Field) → fl (xs ++ ys) ≡ fl xs + fl ys
-fl-append [] ys = omega arith
-fl-append (x ∷ xs) ys =
-    length-append (fieldBytes x) (bytesOf (xs ++ ys)) ∙ ap (λ n. length (fieldBytes x) + n) (fl-append xs ys)
-    ∙ omega (arith, length-append (fieldBytes x) (bytesOf xs))
+fl-append xs ys = ap length (bytes-append xs ys) ∙ length-append (bytesOf xs) (bytesOf ys)
 
 pub fl-cons : (f : Field) (fs : List Field) → fl (f ∷ fs) ≡ length (fieldBytes f) + fl fs
 fl-cons f fs = length-append (fieldBytes f) (bytesOf fs)
 
 -- ---- a unit
-
-digits-most : (k b n : ℕ) → length (digits k b n) ≤ k
-unfolding digits
-digits-most zero b n = omega arith
-digits-most (suc k) b n =
-    byBool (ltb n b)
-    (λ y. rw (digits-low k b n y) (omega arith))
-    (λ y. rw (digits-high k b n y, length-append) (omega (arith, digits-most k b (n / b))))
 
 number-most : (b : Base) (r : Radix) (v : ℕ) → lx b (num r 0 v) ≤ 34
 number-most b r v =
@@ -63,10 +53,10 @@ numeral-most r (suc f) v h =
       length-append w (46 ∷ digitsOf (suc f) (size r) v),
       digits-most mostDigits (size r) (v / size r ^ suc f),
       of-length (suc f) (size r) v,
-      leb-true (suc f) 9 (and-r (isDecimal r) (leb (suc f) 9) h),
+      leb-true (suc f) 9 (search conjuncts),
     )
 
-doubled-most : (w : List ℕ) → length (doubled w) ≤ length w + length w
+pub doubled-most : (w : List ℕ) → length (doubled w) ≤ length w + length w
 doubled-most [] = omega arith
 doubled-most (c ∷ cs) =
     byBool (eqb c 34)
@@ -78,7 +68,7 @@ unit-bound b (num r f v) h =
     omega (
       arith,
       prefixed-length (sameBase b (plain r)) (radixLetter r) (numText r f v),
-      numeral-most r f v (and-r (allowed b (plain r)) (okFraction r f) (and-l (allowed b (plain r) && okFraction r f) (leb v 4294967295) h)),
+      numeral-most r f v (search conjuncts),
     )
 unit-bound b (keyed w) h = omega (arith, prefixed-length (sameBase b keys) (letter keys) w)
 unit-bound b (identifier w) h = omega arith
@@ -95,8 +85,8 @@ module _ (b : Base) where
       omega (
         arith,
         fl-cons (unitField i) (map unitField (l ++ (u ∷ []))),
-        unit-bound b i (and-l (wfUnit b i) (all (wfUnit b) l) h),
-        argument-bound l u (and-r (wfUnit b i) (all (wfUnit b) l) h) k,
+        unit-bound b i (search conjuncts),
+        argument-bound l u (search conjuncts) k,
       )
 
   inc-bound : (r : Radix) (inc : ℕ) (t : Bool) → wL b (incLinks r inc t) ≤ 36
@@ -134,8 +124,8 @@ module _ (b : Base) where
         arith,
         wL-append b (laterLinks (isShort e₀ e) e) (restLinks e es),
         fl-append (elementFields e) (many elementFields es),
-        later-bound n (isShort e₀ e) e (and-l (wfElement b n e) (all (wfElement b n) es) h),
-        rest-bound n e es (and-r (wfElement b n e) (all (wfElement b n) es) h),
+        later-bound n (isShort e₀ e) e (search conjuncts),
+        rest-bound n e es (search conjuncts),
       )
 
   value-bound : (v : List Element) → wfValue b v ≡ true → rl (valueLex b v) ≤ 7 * fl (many elementFields v)
@@ -148,8 +138,8 @@ module _ (b : Base) where
         printed b (e ∷ es),
         wL-append b (fullLinks e) (restLinks e es),
         fl-append (elementFields e) (many elementFields es),
-        later-bound n false e (and-l (wfElement b n e) (all (wfElement b n) es) hs),
-        rest-bound n e es (and-r (wfElement b n e) (all (wfElement b n) es) hs),
+        later-bound n false e (search conjuncts),
+        rest-bound n e es (search conjuncts),
       )
 
 -- ---- pieces of a code or a name, joined by `-`
@@ -185,8 +175,8 @@ module _ {A : Type 0} (lex : A → List Lex) (fields : A → List Field) (good :
         rl-cons (sep s) (lex a ++ M),
         rl-append (lex a) M,
         fl-append (fields a) (many fields as′),
-        bound a (and-l (good a) (all good as′) h),
-        joined-bound as′ (and-r (good a) (all good as′) h),
+        bound a (search conjuncts),
+        joined-bound as′ (search conjuncts),
       )
 
 place-bound : (k : Bool) (p : Place) → wfPlace k p ≡ true → suc (rl (placeLex p)) ≤ 7 * fl (placeFields p)
@@ -206,7 +196,7 @@ block-bound (block k ps) h =
       arith,
       joined-len (map placeLex ps),
       fl-cons (field 2 (cond k 78 80 ∷ [])) (many placeFields ps),
-      joined-bound placeLex placeFields (wfPlace k) (place-bound k) comma refl ps (places-fine k ps h),
+      joined-bound placeLex placeFields (wfPlace k) (place-bound k) comma refl ps (block-places k ps h),
     )
 
 code-bound : (c : List (List ℕ)) → wfPieces isIdentifier 2 c ≡ true → suc (rl (joinedLex dash (map wordLex c))) ≤ 7 * fl (pieceFields 1 c)

@@ -10,13 +10,12 @@ use native.Mathlib.Omega.{arith}
 use lib.Arith.{mod-mul}
 use lib.Dec.{ltb, leb, eqb, lit≤}
 use lib.ListN.{length, length-append}
-use borrow.Author.Tests.{eqb-true, not-true, ltb-true, ltb-false, leb-true, le-leb, lt-ltb, lt-leb}
-use Rattle.laws.specs.Cases.{byBool, and-l, and-r, and-false}
+use borrow.Author.Tests.{eqb-true, ltb-true, ltb-false, leb-true, le-leb, lt-ltb, lt-leb}
+use Rattle.laws.specs.Cases.{byBool, and-l, and-r, and-false, conjuncts}
 use Rattle.laws.specs.Lists.{all, any, isNil, all-append, snoc-some, all-broken, any-append}
-use Rattle.rules.specs.Characters.{capital, isLetter, isDigit, isAlnum, isSymbolChar}
+use Rattle.rules.specs.Characters.{capital, isLetter, isAlnum, isSymbolChar}
 use Rattle.rules.specs.Printing.{digitChar, digits, digitsOf, numText, prefixed, unitLex}
 use Rattle.rules.specs.Refusals.{ok}
-use Rattle.rules.specs.Tokens.{wordChars}
 use Rattle.rules.specs.Units.{Radix, rD, rH, rO, rB, Base, plain, keys, size, letter, Unit, num, keyed, identifier, symbolic, text, sameBase, readUnit, digitValue, isDigitOf, isKey, isHeldKey, valueFrom, runOf, atStop, numeral, baseOf, limited, isIdentifier, isSymbolicName, allowed, prefixNumeral, withMark, readWord}
 use Rattle.rules.specs.WellFormed.{isNone, isDecimal, okFraction, wfUnit}
 use Rattle.rules.proofs.CapitalLaws.{letter-capital, held-run, held-capitals}
@@ -61,6 +60,14 @@ digits-low k b n y = rw (y, digits)
 pub digits-high : (k b n : ℕ) → ltb n b ≡ false → digits (suc k) b n ≡ digits k b (n / b) ++ (digitChar (n % b) ∷ [])
 unfolding digits
 digits-high k b n y = rw (y, digits)
+
+pub digits-most : (k b n : ℕ) → length (digits k b n) ≤ k
+unfolding digits
+digits-most zero b n = omega arith
+digits-most (suc k) b n =
+    byBool (ltb n b)
+    (λ y. rw (digits-low k b n y) (omega arith))
+    (λ y. rw (digits-high k b n y, length-append) (omega (arith, digits-most k b (n / b))))
 
 module _ (r : Radix) where
   pub size-pos : 0 < size r
@@ -120,8 +127,6 @@ of-all (suc k) r n =
     all-append (isDigitOf r) (digitsOf k (size r) (n / size r)) (digitChar (n % size r) ∷ []) (of-all k r (n / size r))
     (rw (digit-is r (n % size r) (mod-lt n (size-pos r))))
 
--- ---- well-formed units
-
 -- ---- no mark among them
 
 pub no-mark : (f : ℕ → Bool) → f 39 ≡ false → (w : List ℕ) → all f w ≡ true → any (λ c. eqb c 39) w ≡ false
@@ -141,9 +146,6 @@ most rD v h = le-trans (suc-le-suc (leb-true v 4294967295 h)) (lit≤ tt)
 most rH v h = le-trans (suc-le-suc (leb-true v 4294967295 h)) (lit≤ tt)
 most rO v h = le-trans (suc-le-suc (leb-true v 4294967295 h)) (lit≤ tt)
 most rB v h = le-trans (suc-le-suc (leb-true v 4294967295 h)) (lit≤ tt)
-
-pub whole-back : (r : Radix) (v : ℕ) → leb v 4294967295 ≡ true → numeral (plain r) (numText r 0 v) ≡ some (num r 0 v)
-whole-back r v h = rw (digits-run r 31 v, numeral) (rw (digits-value r 32 v (most r v h)))
 
 pub stop-at : (xs ys : List ℕ) → all (isDigitOf rD) xs ≡ true → atStop (xs ++ 46 ∷ ys) ≡ some (xs, ys)
 stop-at [] ys h = refl
@@ -168,7 +170,7 @@ fraction-back f v h =
     rw (broken, numeral) (rw (split, digits-run rD 31 (v / 10 ^ suc f), some-ys, is-v, of-length (suc f) 10 v))
 
 pub numeral-back : (r : Radix) (f v : ℕ) → okFraction r f ≡ true → leb v 4294967295 ≡ true → numeral (plain r) (numText r f v) ≡ some (num r f v)
-numeral-back r zero v hf h = whole-back r v h
+numeral-back r zero v hf h = rw (digits-run r 31 v, numeral) (rw (digits-value r 32 v (most r v h)))
 numeral-back rD (suc f) v hf h = fraction-back f v h
 numeral-back rH (suc f) v hf h = absurd (false≢true hf)
 numeral-back rO (suc f) v hf h = absurd (false≢true hf)
@@ -230,34 +232,23 @@ ident-alnum (c ∷ cs) h = rw (and-l (isLetter c) (all isAlnum cs) h, and-r (isL
 
 pub item-back : (b : Base) (i : Unit) (p : ℕ) → wfUnit b i ≡ true → readUnit b p (unitLex b i) ≡ ok i
 item-back b (num r f v) p h =
-    let a : Bool = allowed b (plain r) in
-    let o : Bool = okFraction r f in
-    let l : Bool = leb v 4294967295 in
-    let hl : l ≡ true = and-r (a && o) l h in
-    let ho : o ≡ true = and-r a o (and-l (a && o) l h) in
-    word-back b (plain r) (numText r f v) (num r f v) p (no-mark-num r f v) (and-l a o (and-l (a && o) l h)) (numeral-back r f v ho hl)
-    (rw (hl, few r f ho))
+    let ho : okFraction r f ≡ true = search conjuncts in
+    let hl : leb v 4294967295 ≡ true = search conjuncts in
+    word-back b (plain r) (numText r f v) (num r f v) p (no-mark-num r f v) (search conjuncts) (numeral-back r f v ho hl) (rw (hl, few r f ho))
 item-back b (keyed w) p h =
-    let held : runOf isHeldKey w ≡ true = and-l (runOf isHeldKey w) (leb (length w) 32) h in
+    let held : runOf isHeldKey w ≡ true = search conjuncts in
     let k : runOf isKey w ≡ true = held-run w held in
-    let same : map capital w ≡ w = held-capitals w (and-r (not (isNil w)) (all isHeldKey w) held) in
-    word-back b keys w (keyed w) p (no-mark isKey refl w (and-r (not (isNil w)) (all isKey w) k)) (keys-allowed b) (rw (k, same)) refl
+    let same : map capital w ≡ w = held-capitals w (search conjuncts) in
+    word-back b keys w (keyed w) p (no-mark isKey refl w (search conjuncts)) (keys-allowed b) (rw (k, same)) refl
   where
     keys-allowed : (b : Base) → allowed b keys ≡ true
     keys-allowed (plain r) = refl
     keys-allowed keys = refl
 item-back b (identifier w) p h =
-    let n : Bool = isNone (numeral b w) in
-    let hi : isIdentifier w && n ≡ true = and-l (isIdentifier w && n) (leb (length w) 32) h in
-    let hw : isIdentifier w ≡ true = and-l (isIdentifier w) n hi in
-    rw (no-mark isAlnum refl w (ident-alnum w hw), readWord) (rw (none-is (numeral b w) (and-r (isIdentifier w) n hi), hw))
+    let hw : isIdentifier w ≡ true = search conjuncts in
+    rw (no-mark isAlnum refl w (ident-alnum w hw), readWord) (rw (none-is (numeral b w) (search conjuncts), hw))
 item-back b (symbolic w) p h =
-    let n : Bool = isNone (numeral b w) in
-    let s : Bool = isSymbolicName w in
-    let i : Bool = not (isIdentifier w) in
-    let h3 : s && i && n ≡ true = and-l (s && i && n) (leb (length w) 32 && wordChars false w) h in
-    let h2 : s && i ≡ true = and-l (s && i) n h3 in
-    let hs : s ≡ true = and-l s i h2 in
-    rw (no-mark isSymbolChar refl w (and-l (all isSymbolChar w) (any (λ c. not (isDigit c)) w) hs), readWord)
-    (rw (none-is (numeral b w) (and-r (s && i) n h3), not-true (isIdentifier w) (and-r s i h2), hs))
+    let hs : isSymbolicName w ≡ true = search conjuncts in
+    let hi : isIdentifier w ≡ false = search conjuncts in
+    rw (no-mark isSymbolChar refl w (search conjuncts), readWord) (rw (none-is (numeral b w) (search conjuncts), hi, hs))
 item-back b (text w) p h = refl

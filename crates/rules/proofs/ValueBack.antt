@@ -6,22 +6,21 @@ use mathlib.Core.List.{List, [], _∷_, _++_, append-nil}
 use native.Mathlib.Omega.{arith}
 use lib.Dec.{leb, eqb}
 use lib.ListN.{length, drop, getD}
-use borrow.Author.Tests.{eqb-true, not-true, leb-true, eq-eqb, le-leb}
+use borrow.Author.Tests.{eqb-true, not-true, eq-eqb, le-leb}
 use mathlib.Core.Option.{some, Option}
 use Rattle.rules.specs.Records.{unitOf, unitField, fieldBytes}
-use Rattle.laws.specs.Cases.{byBool, and-l, and-r, some-inj}
+use Rattle.laws.specs.Cases.{byBool, and-l, and-r, some-inj, conjuncts}
 use Rattle.laws.specs.Lists.{all, isNil, all-append, eqL-is}
-use Rattle.rules.specs.Commands.{Element, single, range, leading, lastUnit, valueCount}
+use Rattle.rules.specs.Commands.{isSep, Element, single, range, leading, lastUnit, valueCount}
 use Rattle.rules.specs.Groups.{Join, join, unitAfter, joiner, isJoiner, isUnit, alternate, readUnits, Group, group, begins, Collected, collected, collectOne, collect, arg, fullArg, increment, upper, firstArg, laterArg, later, laterElements, elements, readValue}
 use Rattle.rules.specs.Printing.{sameUnit, sameUnits, unitLex, Link, link, firstUnit, dashLinks, incLinks, tailLinks, isShort, laterLinks, restLinks, linksLex, valueLex}
 use Rattle.rules.specs.Refusals.{ok}
-use Rattle.rules.specs.Tokens.{Sep, ampamp-, ampamp, amp-, amp, Lex, Token, at, sepCode}
-use Rattle.rules.specs.Units.{Radix, rD, rH, rO, rB, Base, Unit, num, keyed, identifier, symbolic, text, sameRadix, plain}
+use Rattle.rules.specs.Tokens.{Sep, ampamp-, ampamp, amp-, amp, plusplus, dash, Lex, word, str, sep, Token, at, sepCode}
+use Rattle.rules.specs.Units.{Radix, rD, rH, rO, rB, Base, Unit, num, keyed, identifier, symbolic, text, sameRadix, plain, readUnit}
 use Rattle.rules.specs.WellFormed.{wfUnit, wfRange, wfElement, wfValue}
+use Rattle.rules.proofs.ReadSteps.{sep-same, Tail, alone, upTo, upBy, tail-lead}
+use Rattle.rules.proofs.ResultLaws.{ok≢bad}
 use Rattle.rules.proofs.UnitBack.{item-back, base-back}
-
--- the parts of a conjunction
-ruleset parts = (and-l, and-r, leb-true, eqb-true)
 
 -- ---- places: any supply
 
@@ -37,26 +36,23 @@ abbrev pub toks : List ℕ → List Lex → List Token
 toks ps [] = []
 toks ps (x ∷ xs) = at (hd ps) x ∷ toks (tl ps) xs
 
-module _ {A : Type 0} (g : Unit → A) where
-  abbrev pub mk : List ℕ → List Link → List (Join A)
-  mk ps [] = []
-  mk ps (link s i ∷ ls) = join s (hd ps) (hd (tl ps)) (g i) ∷ mk (tl (tl ps)) ls
-
-abbrev pub itself : Unit → Unit
-itself i = i
+abbrev pub mk : List ℕ → List Link → List (Join Unit)
+mk ps [] = []
+mk ps (link s i ∷ ls) = join s (hd ps) (hd (tl ps)) i ∷ mk (tl (tl ps)) ls
 
 abbrev pub past : List Link → List ℕ → List ℕ
 past [] ps = ps
 past (l ∷ ls) ps = past ls (tl (tl ps))
 
-pub mk-append : {A : Type 0} (g : Unit → A) (ps : List ℕ) (xs ys : List Link) → mk g ps (xs ++ ys) ≡ mk g ps xs ++ mk g (past xs ps) ys
-mk-append g ps [] ys = refl
-mk-append g ps (link s i ∷ xs) ys = ap (λ r. join s (hd ps) (hd (tl ps)) (g i) ∷ r) (mk-append g (tl (tl ps)) xs ys)
-
--- ---- well-formed valueOrders
+mk-append : (ps : List ℕ) (xs ys : List Link) → mk ps (xs ++ ys) ≡ mk ps xs ++ mk (past xs ps) ys
+mk-append ps [] ys = refl
+mk-append ps (link s i ∷ xs) ys = ap (λ r. join s (hd ps) (hd (tl ps)) i ∷ r) (mk-append (tl (tl ps)) xs ys)
 
 abbrev pub linkOk : Base → Link → Bool
 linkOk b (link s i) = isJoiner s && wfUnit b i
+
+abbrev pub noSep : Sep → Lex → Bool
+noSep s x = not (isSep s x)
 
 -- ---- alternation and units
 
@@ -67,18 +63,54 @@ unit-is b (identifier w) = refl
 unit-is b (symbolic w) = refl
 unit-is b (text w) = refl
 
-pub alternates : (b : Base) (ls : List Link) (ps : List ℕ) (e : ℕ) → all (linkOk b) ls ≡ true → alternate joiner (toks ps (linksLex b ls)) e ≡ ok (mk (unitLex b) ps ls)
-alternates b [] ps e h = refl
-alternates b (link s i ∷ ls) ps e h =
-    let h1 : isJoiner s && wfUnit b i ≡ true = and-l (isJoiner s && wfUnit b i) (all (linkOk b) ls) h in
-    let hs : isJoiner s ≡ true = and-l (isJoiner s) (wfUnit b i) h1 in
-    rw (hs, alternate) (rw (unit-is b i, alternate) (rw (alternates b ls (tl (tl ps)) e (and-r (isJoiner s && wfUnit b i) (all (linkOk b) ls) h))))
+-- separators and units by turns, as links
+pub data Linked (U : Lex → Unit → Type 0) : List Lex → List Link → Type 0 where
+  nil : Linked U [] []
+  cons : {s : Sep} {x : Lex} {i : Unit} {xs : List Lex} {ls : List Link} → isJoiner s ≡ true → U x i → Linked U xs ls → Linked U (sep s ∷ x ∷ xs) (link s i ∷ ls)
 
-pub reads : (b : Base) (ls : List Link) (ps : List ℕ) → all (linkOk b) ls ≡ true → readUnits b (mk (unitLex b) ps ls) ≡ ok (mk itself ps ls)
-reads b [] ps h = refl
-reads b (link s i ∷ ls) ps h =
-    let h1 : isJoiner s && wfUnit b i ≡ true = and-l (isJoiner s && wfUnit b i) (all (linkOk b) ls) h in
-    rw (item-back b i (hd (tl ps)) (and-r (isJoiner s) (wfUnit b i) h1), reads b ls (tl (tl ps)) (and-r (isJoiner s && wfUnit b i) (all (linkOk b) ls) h))
+pub linked-map : {U W : Lex → Unit → Type 0} {xs : List Lex} {ls : List Link} → ((x : Lex) (i : Unit) → U x i → W x i) → Linked U xs ls → Linked W xs ls
+linked-map f nil = nil
+linked-map f (cons {x = x} {i = i} h u l) = cons h (f x i u) (linked-map f l)
+
+-- read under the base, wherever it stands
+abbrev pub Reads : Base → Lex → Unit → Type 0
+Reads b x i = (p : ℕ) → readUnit b p x ≡ ok i
+
+pub reads-unit : (b : Base) (x : Lex) (i : Unit) → Reads b x i → isUnit x ≡ true
+reads-unit b (word w) i h = refl
+reads-unit b (str w) i h = refl
+reads-unit b (sep s) i h = ok≢bad (h 0)
+
+unit-free : (s : Sep) (x : Lex) → isUnit x ≡ true → noSep s x ≡ true
+unit-free s (word w) h = refl
+unit-free s (str w) h = refl
+unit-free s (sep t) h = absurd (false≢true h)
+
+pub joiner-free : (s t : Sep) → isJoiner s ≡ false → isJoiner t ≡ true → noSep s (sep t) ≡ true
+joiner-free s t h k = byBool (eqb (sepCode s) (sepCode t)) (λ y. absurd (false≢true (sym h ∙ ap isJoiner (sep-same s t y) ∙ k))) (λ y. rw y)
+
+linked-free : {b : Base} {xs : List Lex} {ls : List Link} (s : Sep) → isJoiner s ≡ false → Linked (Reads b) xs ls → all (noSep s) xs ≡ true
+linked-free s h nil = refl
+linked-free {b} s h (cons {s = t} {x = x} {i = i} f u l) = rw (joiner-free s t h f, unit-free s x (reads-unit b x i u)) (linked-free s h l)
+
+pub linked-of : (b : Base) (ls : List Link) → all (linkOk b) ls ≡ true → Linked (Reads b) (linksLex b ls) ls
+linked-of b [] h = nil
+linked-of b (link s i ∷ ls) h = cons {s = s} {i = i} (search conjuncts) (λ p. item-back b i p (search conjuncts)) (linked-of b ls (search conjuncts))
+
+record Alternates (b : Base) (ts : List Token) (e : ℕ) (is : List (Join Unit)) : Type 0 where
+  js : List (Join Lex)
+  turns : alternate joiner ts e ≡ ok js
+  units : readUnits b js ≡ ok is
+
+alternates : {b : Base} {xs : List Lex} {ls : List Link} (ps : List ℕ) (e : ℕ) → Linked (Reads b) xs ls → Alternates b (toks ps xs) e (mk ps ls)
+alternates ps e nil = record { js = []; turns = refl; units = refl }
+alternates {b} ps e (cons {s = s} {x = x} {i = i} h u l) =
+    let o = alternates (tl (tl ps)) e l in
+    record {
+      js = join s (hd ps) (hd (tl ps)) x ∷ o .js;
+      turns = rw (h, alternate) (rw (reads-unit b x i u, alternate) (rw (o .turns)));
+      units = rw (u (hd (tl ps)), o .units);
+    }
 
 -- ---- collecting elements
 
@@ -94,12 +126,12 @@ prepend-nil (collected pre gs) = refl
 pub prepend-cons : (j : Join Unit) (xs : List (Join Unit)) (c : Collected) → collectOne false j (prepend xs c) ≡ prepend (j ∷ xs) c
 prepend-cons j xs (collected pre gs) = refl
 
-pub collects : (ls : List Link) (ps : List ℕ) (js : List (Join Unit)) → all inner ls ≡ true → collect (mk itself ps ls ++ js) ≡ prepend (mk itself ps ls) (collect js)
+pub collects : (ls : List Link) (ps : List ℕ) (js : List (Join Unit)) → all inner ls ≡ true → collect (mk ps ls ++ js) ≡ prepend (mk ps ls) (collect js)
 collects [] ps js h = prepend-nil (collect js)
 collects (link s i ∷ ls) ps js h =
-    let nb : begins s ≡ false = not-true (begins s) (and-l (not (begins s)) (all inner ls) h) in
-    rw (nb, collects ls (tl (tl ps)) js (and-r (not (begins s)) (all inner ls) h))
-    (prepend-cons (join s (hd ps) (hd (tl ps)) i) (mk itself (tl (tl ps)) ls) (collect js))
+    let nb : begins s ≡ false = not-true (begins s) (search conjuncts) in
+    rw (nb, collects ls (tl (tl ps)) js (search conjuncts))
+    (prepend-cons (join s (hd ps) (hd (tl ps)) i) (mk (tl (tl ps)) ls) (collect js))
 
 -- ---- an argument
 
@@ -108,7 +140,7 @@ noDash [] = true
 noDash (join s q p i ∷ js) = not (eqb (sepCode s) 5)
 
 pub full-back : (l : List Unit) (u : Unit) (ps : List ℕ) (js : List (Join Unit)) → noDash js ≡ true
-    → fullArg (firstUnit l u) (mk itself ps (dashLinks l u) ++ js) ≡ arg l u js
+    → fullArg (firstUnit l u) (mk ps (dashLinks l u) ++ js) ≡ arg l u js
 full-back [] u ps [] h = refl
 full-back [] u ps (join s q p i ∷ js) h = rw (not-true (eqb (sepCode s) 5) h, fullArg)
 full-back (i ∷ l) u ps js h = rw (full-back l u (tl (tl ps)) js h)
@@ -121,35 +153,47 @@ same-radix rH = refl
 same-radix rO = refl
 same-radix rB = refl
 
-pub sep-fits : (l : List Unit) → eqb (sepCode (cond (isNil l) ampamp ampamp-)) (cond (isNil l) 1 0) ≡ true
-sep-fits [] = refl
-sep-fits (i ∷ l) = refl
+-- what the separator before a range's upper end is
+pub record Through (s : Sep) (code : ℕ) : Type 0 where
+  pub joins : isJoiner s ≡ true
+  pub goes-on : begins s ≡ false
+  pub no-dash : eqb (sepCode s) (sepCode dash) ≡ false
+  pub no-plus : eqb (sepCode s) (sepCode plusplus) ≡ false
+  pub fits : eqb (sepCode s) code ≡ true
 
-pub inc-back : (l : List Unit) (r : Radix) (lo up inc : ℕ) (ps : List ℕ) → leb 1 inc ≡ true
-    → increment l r lo up (mk itself ps (incLinks r inc (eqb inc 1))) ≡ ok (range l r lo up inc)
-inc-back l r lo up inc ps h =
-    byBool (eqb inc 1)
-    (λ y. rw y (rw (eqb-true inc 1 y)))
-    (λ y. rw y (rw (same-radix r, h, increment)))
+pub through : (l : List Unit) → Through (cond (isNil l) ampamp ampamp-) (cond (isNil l) 1 0)
+through [] = record { joins = refl; goes-on = refl; no-dash = refl; no-plus = refl; fits = refl }
+through (i ∷ l) = record { joins = refl; goes-on = refl; no-dash = refl; no-plus = refl; fits = refl }
 
-pub upper-back : (b : Base) (e : Element) (ps : List ℕ) → wfRange b e ≡ true → upper (leading e) (lastUnit e) (mk itself ps (tailLinks e)) ≡ ok e
-upper-back b (single l u) ps h = refl
-upper-back b (range l r lo up inc) ps h =
-    let w : Bool = wfUnit b (num r 0 up) && wfUnit b (num r 0 inc) in
-    let hle : leb lo up ≡ true = and-r w (leb lo up) (and-l (w && leb lo up) (leb 1 inc) h) in
-    let hinc : leb 1 inc ≡ true = and-r (w && leb lo up) (leb 1 inc) h in
-    rw (sep-fits l, upper) (rw (same-radix r) (rw hle (inc-back l r lo up inc (tl (tl ps)) hinc)))
+module _ {l : List Unit} where
+  pub tail-read : {u : Unit} {ls : List Link} {e : Element} → Tail l u ls e → (ps : List ℕ) → upper l u (mk ps ls) ≡ ok e
+  tail-read alone ps = refl
+  tail-read (upTo {r = r} {lo = lo} {up = up} h) ps = rw (through l .fits, upper) (rw (same-radix r) (rw (le-leb lo up h)))
+  tail-read (upBy {r = r} {lo = lo} {up = up} {inc = inc} h k) ps =
+      rw (through l .fits, upper) (rw (same-radix r) (rw (le-leb lo up h) (rw (same-radix r, le-leb 1 inc k, increment))))
 
-pub no-dash : (e : Element) (ps : List ℕ) → noDash (mk itself ps (tailLinks e)) ≡ true
-no-dash (single l u) ps = refl
-no-dash (range [] r lo up inc) ps = refl
-no-dash (range (i ∷ l) r lo up inc) ps = refl
+  tail-inner : {u : Unit} {ls : List Link} {e : Element} → Tail l u ls e → all inner ls ≡ true
+  tail-inner alone = refl
+  tail-inner (upTo h) = rw (through l .goes-on)
+  tail-inner (upBy h k) = rw (through l .goes-on)
 
-pub arg-back : (e : Element) (ps : List ℕ) → fullArg (firstUnit (leading e) (lastUnit e)) (mk itself ps (dashLinks (leading e) (lastUnit e) ++ tailLinks e))
-    ≡ arg (leading e) (lastUnit e) (mk itself (past (dashLinks (leading e) (lastUnit e)) ps) (tailLinks e))
-arg-back e ps =
-    let t : List ℕ = past (dashLinks (leading e) (lastUnit e)) ps in
-    rw (mk-append itself ps (dashLinks (leading e) (lastUnit e)) (tailLinks e)) (full-back (leading e) (lastUnit e) ps (mk itself t (tailLinks e)) (no-dash e t))
+  tail-ends : {u : Unit} {ls : List Link} {e : Element} → Tail l u ls e → (ps : List ℕ) → noDash (mk ps ls) ≡ true
+  tail-ends alone ps = refl
+  tail-ends (upTo h) ps = rw (through l .no-dash)
+  tail-ends (upBy h k) ps = rw (through l .no-dash)
+
+  arg-read : {u : Unit} {ls : List Link} {e : Element} (ps : List ℕ) → Tail l u ls e
+      → fullArg (firstUnit l u) (mk ps (dashLinks l u ++ ls)) ≡ arg l u (mk (past (dashLinks l u) ps) ls)
+  arg-read {u} {ls} ps t =
+      let qs : List ℕ = past (dashLinks l u) ps in
+      rw (mk-append ps (dashLinks l u) ls) (full-back l u ps (mk qs ls) (tail-ends t qs))
+
+-- an element's links as the printer writes them
+pub tail-of : (b : Base) (e : Element) → wfRange b e ≡ true → Tail (leading e) (lastUnit e) (tailLinks e) e
+tail-of b (single l u) h = alone
+tail-of b (range l r lo up inc) h =
+    let hle : lo ≤ up = search conjuncts in
+    byBool (eqb inc 1) (λ y. rw (y, eqb-true inc 1 y) (upTo hle)) (λ y. rw y (upBy {inc = inc} hle (search conjuncts)))
 
 -- ---- the leading units are compared
 
@@ -175,97 +219,124 @@ same-items [] [] h = refl
 same-items [] (y ∷ ys) h = absurd (false≢true h)
 same-items (x ∷ xs) [] h = absurd (false≢true h)
 same-items (x ∷ xs) (y ∷ ys) h =
-    ap₂ (λ a l. a ∷ l) (same-item x y (and-l (sameUnit x y) (sameUnits xs ys) h)) (same-items xs ys (and-r (sameUnit x y) (sameUnits xs ys) h))
+    ap₂ (λ a l. a ∷ l) (same-item x y (search conjuncts)) (same-items xs ys (search conjuncts))
 
 -- ---- groups
 
-pub open-group : (s : Sep) (q p : ℕ) (i : Unit) (ls : List Link) (ps : List ℕ) (js : List (Join Unit)) (gs : List Group)
+open-group : (s : Sep) (q p : ℕ) (i : Unit) (ls : List Link) (ps : List ℕ) (js : List (Join Unit)) (gs : List Group)
     → begins s ≡ true → all inner ls ≡ true → collect js ≡ collected [] gs
-    → collect (join s q p i ∷ (mk itself ps ls ++ js)) ≡ collected [] (group s q p i (mk itself ps ls) ∷ gs)
-open-group s q p i ls ps js gs hb hi hc = rw (hb, collects ls ps js hi, hc, append-nil (mk itself ps ls))
+    → collect (join s q p i ∷ (mk ps ls ++ js)) ≡ collected [] (group s q p i (mk ps ls) ∷ gs)
+open-group s q p i ls ps js gs hb hi hc = rw (hb, collects ls ps js hi, hc, append-nil (mk ps ls))
 
-pub inner-dash : (l : List Unit) (u : Unit) → all inner (dashLinks l u) ≡ true
-inner-dash [] u = refl
-inner-dash (i ∷ l) u = inner-dash l u
+inner-full : {l : List Unit} {u : Unit} {ls : List Link} {e : Element} → Tail l u ls e → all inner (dashLinks l u ++ ls) ≡ true
+inner-full {l} {u} {ls} t = all-append inner (dashLinks l u) ls (dashes l) (tail-inner t)
+  where
+    dashes : (l : List Unit) → all inner (dashLinks l u) ≡ true
+    dashes [] = refl
+    dashes (i ∷ l) = dashes l
 
-pub inner-inc : (r : Radix) (inc : ℕ) (t : Bool) → all inner (incLinks r inc t) ≡ true
-inner-inc r inc true = refl
-inner-inc r inc false = refl
+-- the links of the elements behind one with leading units l
+pub data Laters : List Unit → List Link → List Element → Type 0 where
+  noLaters : {l : List Unit} → Laters l [] []
+  inFull : {l m : List Unit} {u : Unit} {ls ks : List Link} {e : Element} {es : List Element} → length m ≡ length l → Tail m u ls e → Laters m ks es
+      → Laters l (link amp (firstUnit m u) ∷ ((dashLinks m u ++ ls) ++ ks)) (e ∷ es)
+  inShort : {l : List Unit} {u : Unit} {ls ks : List Link} {e : Element} {es : List Element} → isNil l ≡ false → Tail l u ls e → Laters l ks es
+      → Laters l (link amp- u ∷ (ls ++ ks)) (e ∷ es)
 
-pub inner-tail : (e : Element) → all inner (tailLinks e) ≡ true
-inner-tail (single l u) = refl
-inner-tail (range [] r lo up inc) = inner-inc r inc (eqb inc 1)
-inner-tail (range (i ∷ l) r lo up inc) = inner-inc r inc (eqb inc 1)
+-- their joins make groups, and those the elements
+record Made (n : ℕ) (l : List Unit) (es : List Element) (js : List (Join Unit)) : Type 0 where
+  gs : List Group
+  groups : collect js ≡ collected [] gs
+  made : laterElements n l gs ≡ ok es
 
-pub inner-full : (e : Element) → all inner (dashLinks (leading e) (lastUnit e) ++ tailLinks e) ≡ true
-inner-full e = all-append inner (dashLinks (leading e) (lastUnit e)) (tailLinks e) (inner-dash (leading e) (lastUnit e)) (inner-tail e)
+one-more : {n : ℕ} {l m : List Unit} {e : Element} {es : List Element} (s : Sep) (i : Unit) (t ks : List Link) (ps : List ℕ) → begins s ≡ true → all inner t ≡ true → n ≤ 64
+    → leading e ≡ m → later l (group s (hd ps) (hd (tl ps)) i (mk (tl (tl ps)) t)) ≡ ok e → Made (suc n) m es (mk (past t (tl (tl ps))) ks)
+    → Made n l (e ∷ es) (mk ps (link s i ∷ (t ++ ks)))
+one-more {n} s i t ks ps hb hi hn hm h o =
+    let qs : List ℕ = tl (tl ps) in
+    rw (mk-append qs t ks) (record {
+      gs = group s (hd ps) (hd (tl ps)) i (mk qs t) ∷ o .gs;
+      groups = open-group s (hd ps) (hd (tl ps)) i t qs (mk (past t qs) ks) (o .gs) hb hi (o .groups);
+      made = rw (le-leb n 64 hn, laterElements) (rw (h, hm, o .made));
+    })
 
--- the elements after the first: their joins make groups, and those the elements
-pub record Rest (b : Base) (n : ℕ) (e₀ : Element) (es : List Element) (js : List (Join Unit)) : Type 0 where
-  pub gs : List Group
-  pub groups : collect js ≡ collected [] gs
-  pub made : laterElements n (leading e₀) gs ≡ ok es
+laters-made : {l : List Unit} {ls : List Link} {es : List Element} (n : ℕ) (ps : List ℕ) → Laters l ls es → n + length es ≤ 65 → Made n l es (mk ps ls)
+laters-made n ps noLaters h = record { gs = []; groups = refl; made = refl }
+laters-made {l} n ps (inFull {m = m} {u = u} {ls = ls} {ks = ks} {e = e} q t r) h =
+    let qs : List ℕ = tl (tl ps) in
+    let T : List Link = dashLinks m u ++ ls in
+    let here : laterArg l (hd (tl ps)) (fullArg (firstUnit m u) (mk qs T)) ≡ ok e =
+    rw (arg-read qs t) (rw (eq-eqb (length m) (length l) q, laterArg) (tail-read t (past (dashLinks m u) qs))) in
+    one-more amp (firstUnit m u) T ks ps refl (inner-full t) (omega arith) (tail-lead t) here (laters-made (suc n) (past T qs) r (omega arith))
+laters-made n ps (inShort {u = u} {ls = ls} {ks = ks} z t r) h =
+    let qs : List ℕ = tl (tl ps) in
+    one-more amp- u ls ks ps refl (tail-inner t) (omega arith) (tail-lead t) (rw (z, later) (tail-read t qs)) (laters-made (suc n) (past ls qs) r (omega arith))
 
-pub laters-step : (n : ℕ) (l₀ : List Unit) (g : Group) (gs : List Group) (e : Element) (es : List Element) → n ≤ 64 → later l₀ g ≡ ok e
-    → laterElements (suc n) (leading e) gs ≡ ok es → laterElements n l₀ (g ∷ gs) ≡ ok (e ∷ es)
-laters-step n l₀ g gs e es hn hl hg = rw (le-leb n 64 hn, laterElements) (rw (hl, hg))
+-- tokens of a value: a unit and links, free of the separators that do not join units, and read
+pub record ValueTokens (b : Base) (xs : List Lex) (v : List Element) : Type 0 where
+  pub x : Lex
+  pub ys : List Lex
+  pub is : xs ≡ x ∷ ys
+  pub free : (s : Sep) → isJoiner s ≡ false → all (noSep s) xs ≡ true
+  pub reads : (ps : List ℕ) (end : ℕ) → readValue b (toks ps xs) end ≡ ok v
 
-pub later-short : (b : Base) (l₀ : List Unit) (q p : ℕ) (e : Element) (ps : List ℕ) → l₀ ≡ leading e → isNil (leading e) ≡ false → wfRange b e ≡ true
-    → later l₀ (group amp- q p (lastUnit e) (mk itself ps (tailLinks e))) ≡ ok e
-later-short b l₀ q p e ps hs hn hr = rw hs (rw (hn, later) (upper-back b e ps hr))
+links-read : {b : Base} {l : List Unit} {u : Unit} {ls ks : List Link} {e : Element} {es : List Element} {xs : List Lex} (x : Lex) (ps : List ℕ) (end : ℕ)
+    → length l ≤ 3 → Tail l u ls e → Laters l ks es → length (e ∷ es) ≤ 64 → valueCount (e ∷ es) ≤ 4096
+    → Reads b x (firstUnit l u) → Linked (Reads b) xs ((dashLinks l u ++ ls) ++ ks) → readValue b (toks ps (x ∷ xs)) end ≡ ok (e ∷ es)
+links-read {b} {l} {u} {ls} {ks} {e} {es} {xs} x ps end h3 t r h64 hc v k =
+    let qs : List ℕ = tl ps in
+    let i : Unit = firstUnit l u in
+    let T : List Link = dashLinks l u ++ ls in
+    let o : Alternates b (toks qs xs) end (mk qs (T ++ ks)) = alternates qs end k in
+    let m : Made 2 l es (mk (past T qs) ks) = laters-made 2 (past T qs) r (omega arith) in
+    let turned : alternate (unitAfter amp 0) (toks ps (x ∷ xs)) end ≡ ok (join amp 0 (hd ps) x ∷ o .js) = rw (reads-unit b x i v, alternate) (rw (o .turns)) in
+    let units : readUnits b (join amp 0 (hd ps) x ∷ o .js) ≡ ok (join amp 0 (hd ps) i ∷ mk qs (T ++ ks)) = rw (v (hd ps), o .units) in
+    let grouped : collect (join amp 0 (hd ps) i ∷ mk qs (T ++ ks)) ≡ collected [] (group amp 0 (hd ps) i (mk qs T) ∷ m .gs) =
+    rw (mk-append qs T ks) (open-group amp 0 (hd ps) i T qs (mk (past T qs) ks) (m .gs) refl (inner-full t) (m .groups)) in
+    let made′ : elements (group amp 0 (hd ps) i (mk qs T) ∷ m .gs) ≡ ok (e ∷ es) =
+    rw (arg-read qs t) (rw (le-leb (length l) 3 h3, firstArg) (rw (tail-read t (past (dashLinks l u) qs), tail-lead t, m .made))) in
+    rw (turned, units, grouped, made′) (rw (le-leb (valueCount (e ∷ es)) 4096 hc))
 
-pub later-full : (b : Base) (l₀ : List Unit) (q p : ℕ) (e : Element) (ps : List ℕ) → length (leading e) ≡ length l₀ → wfRange b e ≡ true
-    → later l₀ (group amp q p (firstUnit (leading e) (lastUnit e)) (mk itself ps (dashLinks (leading e) (lastUnit e) ++ tailLinks e))) ≡ ok e
-later-full b l₀ q p e ps hl hr =
-    rw (arg-back e ps) (rw (eq-eqb (length (leading e)) (length l₀) hl, laterArg) (upper-back b e (past (dashLinks (leading e) (lastUnit e)) ps) hr))
+pub value-tokens : {b : Base} {l : List Unit} {u : Unit} {ls ks : List Link} {e : Element} {es : List Element} {xs : List Lex} (x : Lex)
+    → length l ≤ 3 → Tail l u ls e → Laters l ks es → length (e ∷ es) ≤ 64 → valueCount (e ∷ es) ≤ 4096
+    → Reads b x (firstUnit l u) → Linked (Reads b) xs ((dashLinks l u ++ ls) ++ ks) → ValueTokens b (x ∷ xs) (e ∷ es)
+value-tokens {b} {xs = xs} x h3 t r h64 hc v k =
+    record {
+      x = x;
+      ys = xs;
+      is = refl;
+      free = λ s h. rw (unit-free s x (reads-unit b x _ v)) (linked-free s h k);
+      reads = λ ps end. links-read x ps end h3 t r h64 hc v k;
+    }
 
--- what `elemOk` says
+-- what a well-formed element has
 module _ (b : Base) (n : ℕ) (e : Element) (h : wfElement b n e ≡ true) where
   pub ok-length : length (leading e) ≡ n
-  ok-length = search parts
+  ok-length = search conjuncts
 
   pub ok-lead : all (wfUnit b) (leading e) ≡ true
-  ok-lead = search parts
+  ok-lead = search conjuncts
 
   pub ok-last : wfUnit b (lastUnit e) ≡ true
-  ok-last = search parts
+  ok-last = search conjuncts
 
   pub ok-range : wfRange b e ≡ true
-  ok-range = search parts
+  ok-range = search conjuncts
 
-pub rest-back : (b : Base) (n : ℕ) (e₀ : Element) (es : List Element) (ps : List ℕ) → all (wfElement b (length (leading e₀))) es ≡ true → n + length es ≤ 65
-    → Rest b n e₀ es (mk itself ps (restLinks e₀ es))
-rest-back b n e₀ [] ps h hn = record { gs = []; groups = refl; made = refl }
-rest-back b n e₀ (e ∷ es) ps h hn =
+-- the elements' links as the printer writes them
+laters-of : (b : Base) (e₀ : Element) (es : List Element) → all (wfElement b (length (leading e₀))) es ≡ true → Laters (leading e₀) (restLinks e₀ es) es
+laters-of b e₀ [] h = noLaters
+laters-of b e₀ (e ∷ es) h =
     let k : ℕ = length (leading e₀) in
     let ho : wfElement b k e ≡ true = and-l (wfElement b k e) (all (wfElement b k) es) h in
-    let hk : length (leading e) ≡ k = ok-length b k e ho in
-    let hes : all (wfElement b (length (leading e))) es ≡ true = rw hk (and-r (wfElement b k e) (all (wfElement b k) es) h) in
-    let ps2 : List ℕ = tl (tl ps) in
+    let t : Tail (leading e) (lastUnit e) (tailLinks e) e = tail-of b e (ok-range b k e ho) in
+    let r : Laters (leading e) (restLinks e es) es = laters-of b e es (rw (ok-length b k e ho) (search conjuncts)) in
     byBool (isShort e₀ e)
     (λ y.
-    let t : List Link = tailLinks e in
-    let ih : Rest b (suc n) e es (mk itself (past t ps2) (restLinks e es)) = rest-back b (suc n) e es (past t ps2) hes (omega arith) in
-    let same : leading e₀ ≡ leading e = same-items (leading e₀) (leading e) (and-r (not (isNil (leading e))) (sameUnits (leading e₀) (leading e)) y) in
-    let nn : isNil (leading e) ≡ false = not-true (isNil (leading e)) (and-l (not (isNil (leading e))) (sameUnits (leading e₀) (leading e)) y) in
-    let g : Group = group amp- (hd ps) (hd (tl ps)) (lastUnit e) (mk itself ps2 t) in
-    rw (y, mk-append itself ps2 t (restLinks e es))
-    (record {
-      gs = g ∷ ih .gs;
-      groups = open-group amp- (hd ps) (hd (tl ps)) (lastUnit e) t ps2 (mk itself (past t ps2) (restLinks e es)) (ih .gs) refl (inner-tail e) (ih .groups);
-      made = laters-step n (leading e₀) g (ih .gs) e es (omega arith) (later-short b (leading e₀) (hd ps) (hd (tl ps)) e ps2 same nn (ok-range b k e ho)) (ih .made);
-    }))
-    (λ y.
-    let t : List Link = dashLinks (leading e) (lastUnit e) ++ tailLinks e in
-    let ih : Rest b (suc n) e es (mk itself (past t ps2) (restLinks e es)) = rest-back b (suc n) e es (past t ps2) hes (omega arith) in
-    let i : Unit = firstUnit (leading e) (lastUnit e) in
-    let g : Group = group amp (hd ps) (hd (tl ps)) i (mk itself ps2 t) in
-    rw (y, mk-append itself ps2 t (restLinks e es))
-    (record {
-      gs = g ∷ ih .gs;
-      groups = open-group amp (hd ps) (hd (tl ps)) i t ps2 (mk itself (past t ps2) (restLinks e es)) (ih .gs) refl (inner-full e) (ih .groups);
-      made = laters-step n (leading e₀) g (ih .gs) e es (omega arith) (later-full b (leading e₀) (hd ps) (hd (tl ps)) e ps2 hk (ok-range b k e ho)) (ih .made);
-    }))
+    let same : leading e₀ ≡ leading e = same-items (leading e₀) (leading e) (search conjuncts) in
+    let some′ : isNil (leading e) ≡ false = search conjuncts in
+    rw (y, same) (inShort some′ t r))
+    (λ y. rw y (inFull (ok-length b k e ho) t r))
 
 -- ---- every link's unit is well formed
 
@@ -289,15 +360,8 @@ inc-ok b r inc false h = rw h
 pub tail-ok : (b : Base) (e : Element) → wfRange b e ≡ true → all (linkOk b) (tailLinks e) ≡ true
 tail-ok b (single l u) h = refl
 tail-ok b (range l r lo up inc) h =
-    let wu : Bool = wfUnit b (num r 0 up) in
-    let wi : Bool = wfUnit b (num r 0 inc) in
-    let h2 : wu && wi ≡ true = and-l (wu && wi) (leb lo up) (and-l (wu && wi && leb lo up) (leb 1 inc) h) in
-    and-both (isJoiner (cond (isNil l) ampamp ampamp-) && wu) (all (linkOk b) (incLinks r inc (eqb inc 1)))
-    (and-both (isJoiner (cond (isNil l) ampamp ampamp-)) wu (joins l) (and-l wu wi h2)) (inc-ok b r inc (eqb inc 1) (and-r wu wi h2))
-  where
-    joins : (l : List Unit) → isJoiner (cond (isNil l) ampamp ampamp-) ≡ true
-    joins [] = refl
-    joins (i ∷ l) = refl
+    let wu : wfUnit b (num r 0 up) ≡ true = search conjuncts in
+    rw (through l .joins, wu) (inc-ok b r inc (eqb inc 1) (search conjuncts))
 
 pub inner-ok : (b : Base) (n : ℕ) (e : Element) → wfElement b n e ≡ true → all (linkOk b) (dashLinks (leading e) (lastUnit e) ++ tailLinks e) ≡ true
 inner-ok b n e h =
@@ -311,23 +375,23 @@ later-ok b n e false h = rw (first-ok b (leading e) (lastUnit e) (ok-lead b n e 
 pub rest-ok : (b : Base) (n : ℕ) (e₀ : Element) (es : List Element) → all (wfElement b n) es ≡ true → all (linkOk b) (restLinks e₀ es) ≡ true
 rest-ok b n e₀ [] h = refl
 rest-ok b n e₀ (e ∷ es) h =
-    all-append (linkOk b) (laterLinks (isShort e₀ e) e) (restLinks e es) (later-ok b n e (isShort e₀ e) (and-l (wfElement b n e) (all (wfElement b n) es) h))
-    (rest-ok b n e es (and-r (wfElement b n e) (all (wfElement b n) es) h))
+    all-append (linkOk b) (laterLinks (isShort e₀ e) e) (restLinks e es) (later-ok b n e (isShort e₀ e) (search conjuncts))
+    (rest-ok b n e es (search conjuncts))
 
 -- ---- a value
 
 module _ (b : Base) (e : Element) (es : List Element) (h : wfValue b (e ∷ es) ≡ true) where
   pub v-lead : leb (length (leading e)) 3 ≡ true
-  v-lead = search parts
+  v-lead = search conjuncts
 
   pub v-all : all (wfElement b (length (leading e))) (e ∷ es) ≡ true
-  v-all = search parts
+  v-all = search conjuncts
 
   pub v-few : leb (length (e ∷ es)) 64 ≡ true
-  v-few = search parts
+  v-few = search conjuncts
 
   pub v-count : leb (valueCount (e ∷ es)) 4096 ≡ true
-  v-count = search parts
+  v-count = search conjuncts
 
   pub v-elem : wfElement b (length (leading e)) e ≡ true
   v-elem = and-l (wfElement b (length (leading e)) e) (all (wfElement b (length (leading e))) es) v-all
@@ -335,27 +399,12 @@ module _ (b : Base) (e : Element) (es : List Element) (h : wfValue b (e ∷ es) 
   pub v-rest : all (wfElement b (length (leading e))) es ≡ true
   v-rest = and-r (wfElement b (length (leading e)) e) (all (wfElement b (length (leading e))) es) v-all
 
-pub value-back : (b : Base) (e : Element) (es : List Element) (ps : List ℕ) (end : ℕ) → wfValue b (e ∷ es) ≡ true
-    → readValue b (toks ps (valueLex b (e ∷ es))) end ≡ ok (e ∷ es)
-value-back b e es ps end h =
-    let i : Unit = firstUnit (leading e) (lastUnit e) in
-    let t : List Link = dashLinks (leading e) (lastUnit e) ++ tailLinks e in
-    let L : List Link = t ++ restLinks e es in
+pub value-back : (b : Base) (e : Element) (es : List Element) → wfValue b (e ∷ es) ≡ true → ValueTokens b (valueLex b (e ∷ es)) (e ∷ es)
+value-back b e es h =
     let ho : wfElement b (length (leading e)) e ≡ true = v-elem b e es h in
+    let i : Unit = firstUnit (leading e) (lastUnit e) in
     let hi : wfUnit b i ≡ true = first-ok b (leading e) (lastUnit e) (ok-lead b _ e ho) (ok-last b _ e ho) in
-    let hL : all (linkOk b) L ≡ true = all-append (linkOk b) t (restLinks e es) (inner-ok b _ e ho) (rest-ok b _ e es (v-rest b e es h)) in
-    let ih : Rest b 2 e es (mk itself (past t (tl ps)) (restLinks e es)) =
-    rest-back b 2 e es (past t (tl ps)) (v-rest b e es h) (omega (arith, leb-true (length (e ∷ es)) 64 (v-few b e es h))) in
-    let gs : List Group = ih .gs in
-    let g : Group = group amp 0 (hd ps) i (mk itself (tl ps) t) in
-    let a1 : alternate (unitAfter amp 0) (toks ps (valueLex b (e ∷ es))) end ≡ ok (join amp 0 (hd ps) (unitLex b i) ∷ mk (unitLex b) (tl ps) L) =
-    rw (unit-is b i, alternate) (rw (alternates b L (tl ps) end hL)) in
-    let a2 : readUnits b (join amp 0 (hd ps) (unitLex b i) ∷ mk (unitLex b) (tl ps) L) ≡ ok (join amp 0 (hd ps) i ∷ mk itself (tl ps) L) =
-    rw (item-back b i (hd ps) hi, reads b L (tl ps) hL) in
-    let a3 : collect (join amp 0 (hd ps) i ∷ mk itself (tl ps) L) ≡ collected [] (g ∷ gs) =
-    rw (mk-append itself (tl ps) t (restLinks e es))
-    (open-group amp 0 (hd ps) i t (tl ps) (mk itself (past t (tl ps)) (restLinks e es)) gs refl (inner-full e) (ih .groups)) in
-    let a4 : elements (g ∷ gs) ≡ ok (e ∷ es) =
-    rw (arg-back e (tl ps))
-    (rw (v-lead b e es h, firstArg) (rw (upper-back b e (past (dashLinks (leading e) (lastUnit e)) (tl ps)) (ok-range b _ e ho), ih .made))) in
-    rw (a1, a2, a3, a4) (rw (v-count b e es h))
+    let hs : all (wfElement b (length (leading e))) es ≡ true = v-rest b e es h in
+    let t : List Link = dashLinks (leading e) (lastUnit e) ++ tailLinks e in
+    value-tokens (unitLex b i) (search conjuncts) (tail-of b e (ok-range b _ e ho)) (laters-of b e es hs) (search conjuncts) (search conjuncts) (λ p. item-back b i p hi)
+    (linked-of b (t ++ restLinks e es) (all-append (linkOk b) t (restLinks e es) (inner-ok b _ e ho) (rest-ok b _ e es hs)))

@@ -1,6 +1,6 @@
 -- A comment goes on up to the first `*/`: a `*` with no `/` behind it leaves the automaton where any other byte leaves it.
 use Prim.Native.Nat.{ℕ, _+_, _<_, _≤_}
-use mathlib.Core.Path.{_≡_, refl, sym, _∙_, subst}
+use mathlib.Core.Path.{_≡_, refl, sym, _∙_}
 use mathlib.Core.List.{List}
 use native.Mathlib.Omega.{arith}
 use lib.Dec.{ltb}
@@ -11,7 +11,7 @@ use Rattle.rules.specs.Characters.{byte}
 use Rattle.rules.specs.Tokens.{idle, comment, star}
 use Rattle.scan.specs.Along.{runAt, Closes, IsComment}
 use Rattle.scan.specs.declared.CommentEnd.the-variants.{Nowhere}
-use Rattle.scan.proofs.RunLaws.{run-end, run-step, stayed, inside}
+use Rattle.scan.proofs.RunLaws.{run-end, run-step, stayed, stayed-next, inside}
 
 -- the loop's invariant: from i to r the automaton stays in the comment
 pub record Commenting (s : List ℕ) (i r : ℕ) : Type 0 where
@@ -32,7 +32,7 @@ star-comment q s i n =
     let h = ltb-false i (length s) y in
     rw (run-end (star q) s i h, run-end (comment q) s i h))
 
-module _ (s : List ℕ) (i₀ i : ℕ) (v : Commenting s i₀ i) where
+module _ {s : List ℕ} {i₀ i : ℕ} (v : Commenting s i₀ i) where
   pub comment-more : i < length s → (getD s i 0 ≡ byte "*" → ⊥) → Commenting s i₀ (i + 1)
   comment-more h n =
       record {
@@ -50,10 +50,9 @@ module _ (s : List ℕ) (i₀ i : ℕ) (v : Commenting s i₀ i) where
   pub comment-stop : {b : ℕ} → i < length s → getD s i 0 ≡ byte "*" → b ≡ getD s (i + 1) 0 → b ≡ byte "/" → Closes s i₀ (i + 2)
   comment-stop h t e z =
       let y : getD s (i + 1) 0 ≡ byte "/" = sym e ∙ z in
-      let two : i + 1 + 1 ≡ i + 2 = omega arith in
       let k = inside s (i + 1) y in
       record {
-        reads = λ q. v .reads q ∙ stayed (comment q) (star q) s i h (rw t) ∙ subst (λ m. runAt (star q) s (i + 1) ≡ runAt idle s m) two (stayed (star q) idle s (i + 1) k (rw y));
+        reads = λ q. v .reads q ∙ stayed (comment q) (star q) s i h (rw t) ∙ stayed-next (star q) idle s i k (rw y);
         past = omega (arith, v .past);
         inside = omega arith;
       }

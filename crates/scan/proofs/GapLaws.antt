@@ -1,5 +1,5 @@
 -- A gap: between tokens the automaton passes over format effectors and comments.
-use Prim.Native.Nat.{ℕ, _+_, _<_, _≤_}
+use Prim.Native.Nat.{ℕ, _+_, _-_, _<_, _≤_}
 use mathlib.Core.Path.{_≡_, refl, sym, _∙_, subst}
 use mathlib.Core.Bool.{false}
 use mathlib.Core.List.{List, []}
@@ -12,8 +12,15 @@ use Rattle.rules.specs.Refusals.{ok, bad, unclosed, noToken}
 use Rattle.rules.specs.Tokens.{idle, slash, comment}
 use Rattle.chars.specs.Classes.{classOf, effectorClass, slashClass}
 use Rattle.chars.proofs.ClassLaws.{effector-yes, is-slash}
-use Rattle.scan.specs.Along.{runAt, Closes, Begins}
-use Rattle.scan.proofs.RunLaws.{run-end, stayed, settle, inside}
+use Rattle.scan.proofs.TokenLaws.{again}
+use Rattle.scan.specs.Scanned.{IsScanned}
+use Rattle.scan.specs.declared.Scanned.{Scanned}
+use Rattle.scan.specs.declared.Gap.{Gap}
+use Rattle.scan.specs.declared.Gap.the-variants.{Start, End, Refused}
+use Rattle.scan.specs.declared.CommentEnd.{CommentEnd}
+use Rattle.scan.specs.declared.CommentEnd.the-variants.{At, Nowhere}
+use Rattle.scan.specs.Along.{IsGap, IsComment, runAt, Closes, Begins}
+use Rattle.scan.proofs.RunLaws.{run-end, stayed, stayed-next, settle, inside}
 use Rattle.scan.proofs.SkipLaws.{skips-idle}
 
 -- the loop's invariant: from i to a the automaton stays between tokens
@@ -23,6 +30,12 @@ pub record Gapping (s : List ℕ) (i a : ℕ) : Type 0 where
 
 pub gap-none : (s : List ℕ) (i : ℕ) → Gapping s i i
 gap-none s i = record { reads = refl; past = omega arith }
+
+closes : (s : List ℕ) (i : ℕ) {r : CommentEnd} {j : ℕ} → IsComment s i r → r ≡ At j → Closes s i j
+closes s i w y = subst (IsComment s i) y w
+
+pub gap-less : (s : List ℕ) (i : ℕ) {r : CommentEnd} {j : ℕ} → IsComment s (i + 2) r → r ≡ At j → i < length s → length s - j < length s - i
+gap-less s i w y h = omega (arith, closes s (i + 2) w y)
 
 module _ {s : List ℕ} {i₀ i : ℕ} (v : Gapping s i₀ i) where
   pub gap-end : length s ≤ i → runAt idle s i₀ ≡ ok []
@@ -55,12 +68,33 @@ module _ {s : List ℕ} {i₀ i : ℕ} (v : Gapping s i₀ i) where
         gap-next = inside s (i + 1) there
 
         opened : runAt idle s i₀ ≡ runAt (comment i) s (i + 2)
-        opened =
-            let two : i + 1 + 1 ≡ i + 2 = omega arith in
-            into ∙ subst (λ m. runAt (slash i) s (i + 1) ≡ runAt (comment i) s m) two (stayed (slash i) (comment i) s (i + 1) gap-next (rw there))
+        opened = into ∙ stayed-next (slash i) (comment i) s i gap-next (rw there)
 
-        pub gap-over : {j : ℕ} → Closes s (i + 2) j → Gapping s i₀ j
-        gap-over z = record { reads = opened ∙ z .reads i; past = omega (arith, v .past, z .past) }
+        module _ {r : CommentEnd} (w : IsComment s (i + 2) r) where
+          pub gap-over : {j : ℕ} → r ≡ At j → Gapping s i₀ j
+          gap-over y = let z = closes s (i + 2) w y in record { reads = opened ∙ z .reads i; past = omega (arith, v .past, z .past) }
 
-        pub gap-four : ((q : ℕ) → runAt (comment q) s (i + 2) ≡ bad unclosed q) → runAt idle s i₀ ≡ bad unclosed i
-        gap-four z = opened ∙ z i
+          pub gap-four : r ≡ Nowhere → runAt idle s i₀ ≡ bad unclosed i
+          gap-four y = opened ∙ subst (IsComment s (i + 2)) y w i
+
+-- ---- what the cursor makes of the gap
+
+module _ (s : List ℕ) (i : ℕ) {r : Gap} (w : IsGap s i r) where
+  module _ {a k : ℕ} (y : r ≡ Start a k) where
+    its-start : Begins s i a k
+    its-start = subst (IsGap s i) y w
+
+    pub gap-begins : Begins s a a k
+    gap-begins = let v = its-start in record { reads = refl; class = v .class; solid = v .solid; plain = v .plain; past = omega arith; inside = v .inside }
+
+    pub gap-room : (n : ℕ) → length s ≤ n + i → length s ≤ n + a
+    gap-room n h = omega (arith, its-start .past)
+
+    pub gap-token : (out : List ℕ) (x : Scanned) → IsScanned (runAt idle s a) s a out x → IsScanned (runAt idle s i) s i out x
+    gap-token out x t = again s a i out x (its-start .reads) (its-start .past) t
+
+  pub gap-done : r ≡ End → runAt idle s i ≡ ok []
+  gap-done y = subst (IsGap s i) y w
+
+  pub gap-refused : {n p : ℕ} → r ≡ Refused n p → runAt idle s i ≡ bad n p
+  gap-refused y = subst (IsGap s i) y w

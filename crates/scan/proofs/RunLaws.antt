@@ -1,5 +1,7 @@
 -- The automaton along the text: one byte, the end of the text, and a byte that ends what was read, each by one step of `run`.
-use Prim.Native.Nat.{ℕ, suc, _+_, _<_, _≤_}
+use mir.Syntax.{w64}
+use mir.Val.{Fits}
+use Prim.Native.Nat.{_-_, _*_, _^_, ℕ, suc, _+_, _<_, _≤_}
 use mathlib.Core.Path.{_≡_, sym, _∙_}
 use mathlib.Core.List.{List, _∷_, reverse, reverse-append}
 use native.Mathlib.Numerals.{add-one}
@@ -25,6 +27,10 @@ module _ (st : State) (s : List ℕ) (i : ℕ) where
 pub stayed : (st st′ : State) (s : List ℕ) (i : ℕ) → i < length s → step st i (getD s i 0) ≡ stay st′ → runAt st s i ≡ runAt st′ s (i + 1)
 stayed st st′ s i h e = run-step st s i h ∙ rw e
 
+-- the byte behind i
+pub stayed-next : (st st′ : State) (s : List ℕ) (i : ℕ) → i + 1 < length s → step st (i + 1) (getD s (i + 1) 0) ≡ stay st′ → runAt st s (i + 1) ≡ runAt st′ s (i + 2)
+stayed-next st st′ s i h e = let two : i + 2 ≡ i + 1 + 1 = omega arith in rw two (stayed st st′ s (i + 1) h e)
+
 -- a byte that does not go on with what was read, or none
 pub settle : (st : State) (s : List ℕ) (i : ℕ) → ((p : ℕ) → step st p (getD s i 0) ≡ end st p (getD s i 0)) → runAt st s i ≡ andThen (flush st) (runAt idle s i)
 settle st s i f =
@@ -45,6 +51,16 @@ inside s i {n} e =
     (λ y.
     let z : 0 ≡ suc n = sym (List·getD-eq-default s 0 (ltb-false i (length s) y)) ∙ e in
     absurd (omega arith))
+
+module _ (s : List ℕ) (i b : ℕ) (e : getD s i 0 ≡ b) (h : 0 < b) where
+  pub next-inside : i + 1 ≤ length s
+  next-inside = let z : getD s i 0 ≡ suc (b - 1) = omega arith in omega (arith, inside s i z)
+
+  pub next-fits : length s * 1 < 2 ^ 63 → Fits w64 (i + 1)
+  next-fits g = omega (arith, next-inside)
+
+pub behind-fits : (s : List ℕ) (i : ℕ) {b n : ℕ} → b ≡ getD s i 0 → b ≡ suc n → length s * 1 < 2 ^ 63 → Fits w64 (i + 1)
+behind-fits s i e t g = omega (arith, inside s i (sym e ∙ t))
 
 -- a byte stored behind the first n is gathered in front of them, last first
 pub stored : (out : List ℕ) (n b : ℕ) → n < length out → reverse (take (n + 1) (set out n b)) ≡ b ∷ reverse (take n out)

@@ -1,6 +1,8 @@
 -- A string: the bytes stored are the bytes that the automaton has gathered, a doubled mark once.
-use Prim.Native.Nat.{ℕ, _+_, _<_, _≤_}
-use mathlib.Core.Path.{_≡_, refl, sym, _∙_, subst}
+use mir.Syntax.{w64}
+use mir.Val.{Fits}
+use Prim.Native.Nat.{_*_, _^_, ℕ, _+_, _<_, _≤_}
+use mathlib.Core.Path.{_≡_, refl, sym, _∙_}
 use mathlib.Core.Bool.{false}
 use mathlib.Core.List.{List, [], _∷_, reverse, reverse-reverse}
 use native.Mathlib.Omega.{arith}
@@ -11,7 +13,7 @@ use Rattle.rules.specs.Characters.{byte}
 use Rattle.rules.specs.Refusals.{bad, unclosed}
 use Rattle.rules.specs.Tokens.{inStr, quote}
 use Rattle.scan.specs.Along.{runAt, Ends}
-use Rattle.scan.proofs.RunLaws.{run-end, stayed, settle, inside, stored}
+use Rattle.scan.proofs.RunLaws.{run-end, stayed, stayed-next, settle, inside, stored}
 
 -- the loop's invariant: the first n bytes of out are what the automaton has gathered of the content
 pub record Stringing (s : List ℕ) (i₀ : ℕ) (old out : List ℕ) (n i : ℕ) : Type 0 where
@@ -30,6 +32,9 @@ module _ {s : List ℕ} {i₀ : ℕ} {old out : List ℕ} {n i : ℕ} (v : Strin
   module _ (h : i < length s) where
     pub string-room : n < length out
     string-room = omega (arith, v .fits, v .room, v .long)
+
+    pub string-fits : length s * 1 < 2 ^ 63 → Fits w64 (n + 1)
+    string-fits g = omega (arith, v .fits)
 
     string-more : (b j : ℕ) → i + 1 ≤ j → ((q : ℕ) (w : List ℕ) → runAt (inStr q w) s i ≡ runAt (inStr q (b ∷ w)) s j)
         → Stringing s i₀ old (set out n b) (n + 1) j
@@ -53,9 +58,7 @@ module _ {s : List ℕ} {i₀ : ℕ} {old out : List ℕ} {n i : ℕ} (v : Strin
       pub string-double : b ≡ byte "\"" → Stringing s i₀ old (set out n (byte "\"")) (n + 1) (i + 2)
       string-double m =
           let y : getD s (i + 1) 0 ≡ byte "\"" = sym g ∙ m in
-          let two : i + 1 + 1 ≡ i + 2 = omega arith in
-          string-more (byte "\"") (i + 2) (omega arith)
-          (λ q w. mark q w ∙ subst (λ k. runAt (quote q w) s (i + 1) ≡ runAt (inStr q (byte "\"" ∷ w)) s k) two (stayed (quote q w) (inStr q (byte "\"" ∷ w)) s (i + 1) (inside s (i + 1) y) (rw y)))
+          string-more (byte "\"") (i + 2) (omega arith) (λ q w. mark q w ∙ stayed-next (quote q w) (inStr q (byte "\"" ∷ w)) s i (inside s (i + 1) y) (rw y))
 
       pub string-stop : (b ≡ byte "\"" → ⊥) → Ends s i₀ out n (i + 1)
       string-stop m =

@@ -1,6 +1,6 @@
 -- Tokens: what the automaton does over each stretch, from its first byte on, is one token and the rest of the text; the limits are those of the rules.
 use Prim.Native.Nat.{ℕ, _+_, _<_, _≤_}
-use mathlib.Core.Path.{_≡_, refl, sym, _∙_}
+use mathlib.Core.Path.{_≡_, refl, sym, _∙_, subst}
 use mathlib.Core.Bool.{true, false, cond}
 use mathlib.Core.List.{List, [], _∷_}
 use native.Mathlib.Omega.{arith}
@@ -11,15 +11,17 @@ use borrow.Author.Tests.{eq-eqb, ne-eqb, eqb-true, le-leb, lt-leb, ltb-true, ltb
 use Rattle.laws.specs.Cases.{byBool, cond-both}
 use Rattle.rules.specs.Characters.{byte}
 use Rattle.rules.specs.Refusals.{Res, ok, bad, unclosed, noToken, tooMany, mostWord, mostPrefixed, mostString}
-use Rattle.rules.specs.Tokens.{Sep, dash, comma, colon, equals, semi, plusplus, word, sep, sepCode, Token, at, idle, inWord, inPlus, oneAmp, slash, inStr, wordMost, wordToken, Step, stay, emit, fresh, oneSep}
+use Rattle.rules.specs.Tokens.{Sep, dash, comma, colon, equals, semi, plusplus, word, sep, sepCode, Token, at, idle, inWord, inPlus, oneAmp, slash, inStr, wordMost, wordToken, Step, stay, emit, fresh, oneSep, andThen}
 use Rattle.chars.specs.Classes.{classOf, noClass, wordClass, plusClass, ampClass, effectorClass, slashClass, markClass, otherClass}
 use Rattle.chars.proofs.ClassLaws.{is-word, is-effector, is-plus, is-amp, is-dash, is-comma, is-colon, is-equals, is-semi, is-slash, is-mark, few}
 use Rattle.token_table.specs.Table.{lexOfKind, wordKind, stringKind}
-use Rattle.scan.specs.Along.{runAt, Skipped, IsWord, Ends, IsAmp, Begins}
+use Rattle.scan.specs.Along.{runAt, Skipped, IsWord, Ends, IsString, IsAmp, Begins}
+use Rattle.scan.specs.declared.StringEnd.{StringEnd}
+use Rattle.scan.specs.declared.StringEnd.the-variants.{Closed, Open}
 use Rattle.scan.proofs.RunLaws.{run-step, stayed, inside}
 use Rattle.scan.proofs.SkipLaws.{skips-plus}
 use Rattle.scan.proofs.WordLaws.{plus-word}
-use Rattle.scan.specs.Scanned.{IsScanned, IsSep}
+use Rattle.scan.specs.Scanned.{IsScanned, IsToken, IsSep}
 use Rattle.scan.specs.declared.Scanned.{Scanned}
 use Rattle.scan.specs.declared.Scanned.the-variants.{Token as TokenIs, End, Refused}
 
@@ -29,6 +31,11 @@ again s i j out (TokenIs p n c k) q h t =
     record { reads = q ∙ t .reads; few = t .few; place = t .place; fits = omega (arith, t .fits); past = omega (arith, t .past); inside = t .inside }
 again s i j out End q h t = q ∙ t
 again s i j out (Refused n p) q h t = q ∙ t
+
+-- a token at the place i, up to e
+its-token : {x : Res (List Token)} {s out : List ℕ} {k i n e : ℕ} → x ≡ andThen (ok (at i (lexOfKind k (take n out)) ∷ [])) (runAt idle s e) → k ≤ stringKind → n + i ≤ e → i < e
+    → e ≤ length s → IsToken x s i out k i n e
+its-token r f h p b = record { reads = r; few = f; place = omega arith; fits = h; past = p; inside = b }
 
 -- ---- words
 
@@ -45,21 +52,14 @@ at-most w = cond-both (λ m. m ≤ mostPrefixed) (eqb (getD w 1 0) (byte "'")) (
 at-least : (w : List ℕ) → mostWord ≤ wordMost w
 at-least w = cond-both (λ m. mostWord ≤ m) (eqb (getD w 1 0) (byte "'")) (omega arith) (omega arith)
 
-module _ {s : List ℕ} {i first : ℕ} {out : List ℕ} {n e : ℕ} (v : IsWord s i first out n e) (q : ℕ) (h : q < i) (hi : i ≤ length s) (room : length s < length out + i) where
+module _ {s : List ℕ} {i first : ℕ} {out : List ℕ} {n e : ℕ} (v : IsWord s i first out n e) (old : List ℕ) (q : ℕ) (h : q < i) (hi : i ≤ length s) (room : length s < length old + i)
+    (long : length out ≡ length old) where
   its-length : length (take n out) ≡ n
   its-length = length-take-le n out (omega (arith, v .fits, v .inside))
 
   accepted : length (take n out) ≤ wordMost (take n out) → IsScanned (runAt (inWord q (first ∷ [])) s i) s q out (TokenIs q n (record { at = e }) wordKind)
   unfolding lexOfKind
-  accepted g =
-      record {
-        reads = v .reads q ∙ rw (short-word q (take n out) g);
-        few = omega arith;
-        place = omega arith;
-        fits = omega (arith, v .fits);
-        past = omega (arith, v .past);
-        inside = v .inside;
-      }
+  accepted g = its-token (v .reads q ∙ rw (short-word q (take n out) g)) (omega arith) (omega (arith, v .fits)) (omega (arith, v .past)) (v .inside)
 
   pub word-short : n ≤ mostWord → IsScanned (runAt (inWord q (first ∷ [])) s i) s q out (TokenIs q n (record { at = e }) wordKind)
   word-short g = accepted (omega (arith, its-length, at-least (take n out)))
@@ -95,17 +95,10 @@ module _ (s : List ℕ) (i : ℕ) {j b : ℕ} (y : getD s i 0 ≡ byte "+") (z :
   plus-double t out =
       let u : getD s j 0 ≡ byte "+" = sym g ∙ t in
       let k : j < length s = inside s j u in
-      record {
-        reads = begun ∙ run-step (inPlus i [] i) s j k ∙ rw u;
-        few = omega arith;
-        place = inside s i y;
-        fits = omega (arith, z .past);
-        past = omega (arith, z .past);
-        inside = omega arith;
-      }
+      its-token (begun ∙ run-step (inPlus i [] i) s j k ∙ rw u) (omega arith) (omega (arith, z .past)) (omega (arith, z .past)) (omega arith)
 
-  pub plus-one : (b ≡ byte "+" → ⊥) → runAt idle s i ≡ runAt (inWord i (byte "+" ∷ [])) s j
-  plus-one m = begun ∙ plus-word i [] i s j (λ u. m (g ∙ u)) (z .stops)
+  pub plus-one : (b ≡ byte "+" → ⊥) → (out : List ℕ) (r : Scanned) → IsScanned (runAt (inWord i (byte "+" ∷ [])) s j) s i out r → IsScanned (runAt idle s i) s i out r
+  plus-one m out r t = again s i i out r (begun ∙ plus-word i [] i s j (λ u. m (g ∙ u)) (z .stops)) (omega arith) t
 
 -- ---- strings
 
@@ -113,10 +106,13 @@ module _ (s : List ℕ) (i : ℕ) (y : getD s i 0 ≡ byte "\"") where
   opened : runAt idle s i ≡ runAt (inStr i []) s (i + 1)
   opened = stayed idle (inStr i []) s i (inside s i y) (rw y)
 
-  pub string-never : ((q : ℕ) → runAt (inStr q []) s (i + 1) ≡ bad unclosed q) → runAt idle s i ≡ bad unclosed i
-  string-never f = opened ∙ f i
+  pub string-never : (out : List ℕ) {r : StringEnd} → IsString s (i + 1) out r → r ≡ Open → runAt idle s i ≡ bad unclosed i
+  string-never out w z = opened ∙ subst (IsString s (i + 1) out) z w i
 
-  module _ {out : List ℕ} {n e : ℕ} (v : Ends s (i + 1) out n e) (room : length s ≤ length out + i) where
+  module _ (old out : List ℕ) {n e : ℕ} {r : StringEnd} (w : IsString s (i + 1) out r) (z : r ≡ Closed n e) (room : length s ≤ length old + i) (long : length out ≡ length old) where
+    v : Ends s (i + 1) out n e
+    v = subst (IsString s (i + 1) out) z w
+
     size : length (take n out) ≡ n
     size = length-take-le n out (omega (arith, v .fits, v .inside))
 
@@ -124,14 +120,7 @@ module _ (s : List ℕ) (i : ℕ) (y : getD s i 0 ≡ byte "\"") where
     unfolding lexOfKind
     string-fine h =
         let l : leb (length (take n out)) mostString ≡ true = le-leb (length (take n out)) mostString (omega (arith, size)) in
-        record {
-          reads = opened ∙ v .reads i ∙ rw l;
-          few = omega arith;
-          place = inside s i y;
-          fits = omega (arith, v .fits);
-          past = omega (arith, v .fits);
-          inside = v .inside;
-        }
+        its-token (opened ∙ v .reads i ∙ rw l) (omega arith) (omega (arith, v .fits)) (omega (arith, v .fits)) (v .inside)
 
     pub string-over : mostString < n → runAt idle s i ≡ bad tooMany i
     string-over h =
@@ -141,15 +130,8 @@ module _ (s : List ℕ) (i : ℕ) (y : getD s i 0 ≡ byte "\"") where
 -- ---- `&`
 
 pub amp-token : (s : List ℕ) (i : ℕ) {k e : ℕ} → getD s i 0 ≡ byte "&" → IsAmp s (i + 1) k e → IsSep (runAt idle s i) s i (TokenIs i 0 (record { at = e }) k)
-amp-token s i {k} {e} y v out =
-    record {
-      reads = stayed idle (oneAmp i) s i (inside s i y) (rw y) ∙ v .reads i (take 0 out);
-      few = v .few;
-      place = inside s i y;
-      fits = omega (arith, v .past);
-      past = omega (arith, v .past);
-      inside = v .inside;
-    }
+amp-token s i y v out =
+    its-token (stayed idle (oneAmp i) s i (inside s i y) (rw y) ∙ v .reads i (take 0 out)) (v .few) (omega (arith, v .past)) (omega (arith, v .past)) (v .inside)
 
 -- ---- the byte that begins a token
 
@@ -185,8 +167,8 @@ module _ {s : List ℕ} {i k : ℕ} (v : Begins s i i k) where
   pub starts-string : k ≡ markClass → getD s i 0 ≡ byte "\""
   starts-string t = eqb-true (getD s i 0) (byte "\"") (is-mark (getD s i 0) ∙ rw (← v .class, t))
 
-  pub starts-word : k ≡ wordClass → runAt idle s i ≡ runAt (inWord i (getD s i 0 ∷ [])) s (i + 1)
-  starts-word t = stayed idle (inWord i (getD s i 0 ∷ [])) s i (v .inside) (begins t)
+  pub starts-word : k ≡ wordClass → (out : List ℕ) (r : Scanned) → IsScanned (runAt (inWord i (getD s i 0 ∷ [])) s (i + 1)) s i out r → IsScanned (runAt idle s i) s i out r
+  starts-word t out r w = again s i i out r (stayed idle (inWord i (getD s i 0 ∷ [])) s i (v .inside) (begins t)) (omega arith) w
 
   pub starts-other : k ≡ otherClass → runAt idle s i ≡ bad noToken i
   starts-other t = run-step idle s i (v .inside) ∙ rw (begins t)
@@ -200,14 +182,7 @@ module _ {s : List ℕ} {i k : ℕ} (v : Begins s i i k) where
   separator : (out : List ℕ) (m : ℕ) (l : Sep) → k ≡ m → m ≤ stringKind → lexOfKind m (take 0 out) ≡ sep l → byClass i (getD s i 0) m ≡ oneSep i l
       → IsScanned (runAt idle s i) s i out (TokenIs i 0 (record { at = i + 1 }) k)
   separator out m l t f e b =
-      record {
-        reads = run-step idle s i (v .inside) ∙ rw (begins t, b, t, e);
-        few = omega arith;
-        place = v .inside;
-        fits = omega arith;
-        past = omega arith;
-        inside = omega (arith, v .inside);
-      }
+      its-token (run-step idle s i (v .inside) ∙ rw (begins t, b, t, e)) (omega arith) (omega arith) (omega arith) (omega (arith, v .inside))
 
   pub starts-one : effectorClass < k → (k ≡ markClass → ⊥) → (k ≡ otherClass → ⊥) → (out : List ℕ)
       → IsScanned (runAt idle s i) s i out (TokenIs i 0 (record { at = i + 1 }) k)
@@ -220,7 +195,3 @@ module _ {s : List ℕ} {i k : ℕ} (v : Begins s i i k) where
       byBool (ltb k 8) (λ y. separator out 7 colon (omega (arith, ltb-true k 8 y, ltb-false k 7 y7)) (omega arith) refl refl) (λ y8.
       byBool (ltb k 9) (λ y. separator out 8 equals (omega (arith, ltb-true k 9 y, ltb-false k 8 y8)) (omega arith) refl refl) (λ y9.
       separator out 9 semi (omega (arith, ltb-false k 9 y9)) (omega arith) refl refl))))
-
--- a token begins at a, once the gap before it is passed
-pub start : {s : List ℕ} {i a k : ℕ} → Begins s i a k → Begins s a a k
-start v = record { reads = refl; class = v .class; solid = v .solid; plain = v .plain; past = omega arith; inside = v .inside }

@@ -1,5 +1,7 @@
 -- A word: the bytes stored are the bytes that the automaton has gathered, so each turn of the loop is one of its steps.
-use Prim.Native.Nat.{ℕ, _+_, _<_, _≤_}
+use mir.Syntax.{w64}
+use mir.Val.{Fits}
+use Prim.Native.Nat.{_*_, _^_, ℕ, _+_, _<_, _≤_}
 use mathlib.Core.Path.{_≡_, refl, sym, _∙_}
 use mathlib.Core.Bool.{false}
 use mathlib.Core.List.{List, [], _∷_, reverse, reverse-reverse}
@@ -69,6 +71,9 @@ word-none s i first old h r =
 module _ {s : List ℕ} {i₀ first : ℕ} {old out : List ℕ} {n i : ℕ} (v : Wording s i₀ first old out n i) where
   pub word-room : i < length s → n < length out
   word-room h = omega (arith, v .fits, v .room, v .long)
+
+  pub word-fits : i < length s → length s * 1 < 2 ^ 63 → Fits w64 (n + 1)
+  word-fits h g = omega (arith, v .fits)
 
   taken-long : length (take n out) ≡ n
   taken-long = length-take-le n out (omega (arith, v .fits, v .room, v .long, v .inside))
@@ -149,3 +154,6 @@ module _ {s : List ℕ} {i₀ first : ℕ} {old out : List ℕ} {n i : ℕ} (v :
           let here : runAt idle s i ≡ andThen pp (runAt idle s (j + 1))
           = stayed idle (inPlus i [] i) s i h (rw plus) ∙ z .reads (inPlus i [] i) (skips-plus i [] i) ∙ two i [] in
           ends (λ q w l. to q w ∙ two q w ∙ rw (tokens-some q w l, here) (then-assoc (wordToken q (reverse w)) pp (runAt idle s (j + 1))))
+
+pub word-kept : {s : List ℕ} {i₀ first : ℕ} (old : List ℕ) (b : ℕ) {out : List ℕ} {n i : ℕ} → Wording s i₀ first (set old 0 b) out n i → length out ≡ length old
+word-kept old b v = v .long ∙ length-set old 0 b

@@ -22,6 +22,15 @@ pub verdict-map : {A B : Type 0} (f : A → B) (r : Res A) → verdict (mapR f r
 verdict-map f (ok a) = refl
 verdict-map f (bad n p) = refl
 
+-- what a verdict tells of the result that it stands for
+pub verdict-bad : {A : Type 0} (r : Res A) (n p : ℕ) → verdict r ≡ Refused n p → r ≡ bad n p
+verdict-bad (ok a) n p h = let z : _≡_ {A = ℕ} 0 1 = cc in absurd (omega arith)
+verdict-bad (bad m q) n p h = let e : m ≡ n = cc in let f : q ≡ p = cc in rw (e, f)
+
+pub verdict-ok : {A C : Type 0} (r : Res A) → verdict r ≡ Fine → ((a : A) → r ≡ ok a → C) → C
+verdict-ok (ok a) h k = k a refl
+verdict-ok (bad m q) h k = let z : _≡_ {A = ℕ} 0 1 = cc in absurd (omega arith)
+
 -- a separator's kind is its code
 pub sep-code : (k : ℕ) → k < wordKind → sepCode (sepOf k) ≡ k
 sep-code k h = eqb-true (sepCode (sepOf k)) k (in-range (λ k. eqb (sepCode (sepOf k)) k) 0 10 refl k (omega arith) h)

@@ -1,13 +1,15 @@
 -- Where the first separator of a kind stands, there the rules cut: a token is that separator exactly if its kind is the separator's number.
-use Prim.Native.Nat.{ℕ, _+_, _-_, _≤_, _<_}
+use Prim.Native.Nat.{ℕ, _+_, _-_, _*_, _^_, _≤_, _<_}
 use mathlib.Core.Path.{_≡_, refl, sym, _∙_}
 use mathlib.Core.List.{List, [], _∷_}
 use native.Mathlib.Nat.{add-zero}
 use native.Mathlib.Omega.{arith}
 use borrow.Author.Tests.{eq-eqb, ne-eqb, ltb-true, ltb-false, le-leb, lt-leb}
+use mir.Syntax.{w64}
+use mir.Val.{Fits}
 use lib.Dec.{ltb, eqb}
 use lib.ListN.{length, getD, take, drop, length-drop, drop-of-length-le}
-use lib.Seq.{drop-drop}
+use lib.Seq.{drop-drop, length-take-le}
 use Rattle.laws.specs.Cases.{byBool, eqb-sym}
 use Rattle.laws.specs.Lists.{next}
 use Rattle.rules.specs.Commands.{isSep, first, Seg, seg, split, Cut, cut, uncut, consCut, cutAt, isCut}
@@ -149,8 +151,21 @@ module _ (s : Sep) (e : ℕ) (cs : List ℕ) where
       (λ y. let l = ltb-true k (length ts) y in rw (le-leb (k + 1) (length ts) (omega arith), next ts k l))
       (λ y. let l = ltb-false k (length ts) y in rw (lt-leb (k + 1) (length ts) (omega arith), drop-of-length-le ts l)))
 
-pub found-past : (ts : List ℕ) (i j : ℕ) {k : ℕ} → k ≡ i + before j (drop i ts) → i ≤ k
-found-past ts i j q = omega arith
+-- the index found from i on: it stands behind i, inside the table or at its end, and the search goes on behind it
+module _ (ts : List ℕ) (i j : ℕ) {k : ℕ} (q : k ≡ i + before j (drop i ts)) where
+  pub found-past : i ≤ k
+  found-past = omega arith
 
-pub found-inside : (ts : List ℕ) (i j : ℕ) {k : ℕ} → k ≡ i + before j (drop i ts) → i ≤ length ts → k ≤ length ts
-found-inside ts i j q h = omega (arith, before-inside j (drop i ts), length-drop i ts)
+  module _ (h : i ≤ length ts) where
+    pub found-inside : k ≤ length ts
+    found-inside = omega (arith, before-inside j (drop i ts), length-drop i ts)
+
+    pub found-next : length ts * 8 < 2 ^ 63 → Fits w64 (k + 1)
+    found-next g = omega (arith, found-inside)
+
+    pub found-less : length ts + 1 - (k + 1) < length ts + 1 - i
+    found-less = omega (arith, found-inside)
+
+-- a part up to an index inside has that length
+pub taken : (k : ℕ) (ts : List ℕ) → k ≤ length ts → k ≡ length (take k ts)
+taken k ts h = sym (length-take-le k ts h)

@@ -8,6 +8,7 @@ use lib.ListN.{length, getD}
 use lib.Dec.{leb, ltb, eqb}
 use borrow.Author.Tests.{lt-leb, le-leb, le-ltb, eqb-true, leb-true}
 use Rattle.laws.specs.Cases.{byBool, and-l}
+use Rattle.units.specs.declared.Word.{Word as Answer}
 use Rattle.rules.specs.Characters.{byte, capital, between, isDigit}
 use Rattle.rules.specs.Units.{digitValue, numeral, baseAt}
 use Rattle.digits.specs.declared.Run.{Run}
@@ -40,11 +41,12 @@ all-plain : (w : List ℕ) {r : Run} → r ≡ digitsAt 10 w 0 0 → length w �
 unfolding plainUnit
 all-plain w {r} q h k = rw (← q, lt-leb (r .end) 0 (omega arith), le-ltb (r .end) (length w) h)
 
-pub decimal-all : (b : ℕ) (w : List ℕ) {r : Run} → b ≡ byte "D" → r ≡ digitsAt 10 w 0 0 → length w ≤ r .end → 0 < length w → sized (byte "D") 0 (r .value) ≡ unitUnder b w
+pub decimal-all : (b : ℕ) (w : List ℕ) {u : Answer} {r : Run} → b ≡ byte "D" → r ≡ digitsAt 10 w 0 0 → length w ≤ r .end → 0 < length w
+    → u ≡ sized (byte "D") 0 (r .value) → u ≡ unitUnder b w
 unfolding unitUnder
-decimal-all b w {r} d q h k =
+decimal-all b w {u} {r} d q h k s =
     let e : r .end ≡ 0 + runLength 10 w = ap (λ (t : Run). t .end) q ∙ run-end 10 w 0 0 in
-    rw (d, no-prefix w (omega arith), ← decimal-is w, all-plain w q h k) (sym (sized-name w (byte "D") 0 (r .value)))
+    rw (d, no-prefix w (omega arith), ← decimal-is w, all-plain w q h k) (s ∙ sym (sized-name w (byte "D") 0 (r .value)))
 
 -- ---- no digit at the start
 

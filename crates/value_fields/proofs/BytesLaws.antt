@@ -7,13 +7,16 @@ use mathlib.Core.Option.{Option, none, some}
 use native.Mathlib.Nat.{add-zero}
 use native.Mathlib.Omega.{arith}
 use borrow.Author.Tests.{ne-eqb}
+use mir.Syntax.{w64}
+use mir.Val.{Fits}
 use lib.Dec.{leb, ltb, eqb}
 use lib.ListN.{length, getD, take, drop, length-append}
 use Rattle.laws.specs.Cases.{byBool, pick-all, pick-if}
+use Rattle.laws.specs.Over.{over}
 use Rattle.rules.specs.Characters.{capital}
 use Rattle.rules.specs.Commands.{Element, single, range, leading, lastUnit}
 use Rattle.rules.specs.Groups.{Join}
-use Rattle.rules.specs.Records.{Field, field, fourBytes, unitField, fieldBytes, bytesOf, elementFields}
+use Rattle.rules.specs.Records.{field, fourBytes, unitField, fieldBytes, bytesOf, elementFields}
 use Rattle.rules.specs.Refusals.{ok}
 use Rattle.rules.specs.Units.{Base, letter, baseAt, Unit, num, keyed, identifier, symbolic, text, numeral, isIdentifier, isSymbolicName}
 use Rattle.rules.proofs.ResultLaws.{ok-inj, ok≢bad}
@@ -21,9 +24,9 @@ use Rattle.units.specs.Words.{mayStand, sized, ofNumeral, nameUnit, orName, pre
 use Rattle.units.specs.declared.Word.{Word}
 use Rattle.units.specs.declared.Word.the-variants.{Numeral, Keyed, Identifier, Symbolic, Unreadable, TooBig}
 use Rattle.fields.specs.Units.{unitBytes, Skips}
-use Rattle.fields.proofs.UnitLaws.{unit-bytes, numeral-len, keyed-len}
-use Rattle.token_table.specs.Table.{kindIn, placeIn, contentIn, lexOfKind}
-use Rattle.token_table.proofs.ContentLaws.{Cuts, content-small}
+use Rattle.fields.proofs.UnitLaws.{unit-bytes, numeral-len, keyed-size}
+use Rattle.token_table.specs.Table.{kindIn, placeIn, contentIn, startIn, endIn, lexOfKind, wordKind}
+use Rattle.token_table.proofs.ContentLaws.{content-small, cut-is, cut-size}
 use Rattle.read_joins.specs.Joins.{unitIn, joinsIn, unitAt, unitsFrom, count}
 use Rattle.read_joins.specs.Answers.{elementAnswer}
 use Rattle.read_joins.specs.declared.Shape.{Shape}
@@ -71,17 +74,20 @@ marked [] h = absurd (false≢true h)
 marked (c ∷ []) h = absurd (false≢true h)
 marked (c ∷ m ∷ w) h = omega arith
 
-pub skips : (l : ℕ) (w : List ℕ) → Skips w (unitUnder l w)
+skips : (l : ℕ) (w : List ℕ) → Skips w (unitUnder l w)
 unfolding unitUnder prefixUnit
 skips l w =
     pick-if (Skips w) (eqb (getD w 1 0) 39)
     (λ y. let p : ℕ = capital (getD w 0 0) in pick-all (Skips w) (mayStand l p) (numeral-skips w p 2 (numeral (baseAt p) (drop 2 w)) (marked w y)) tt)
     (λ y. name-skips w (ofNumeral l 0 (numeral (baseAt l) w)) (numeral-skips w l 0 (numeral (baseAt l) w) (omega arith)))
 
+pub skipped : (l : ℕ) (w : List ℕ) {u : Word} → u ≡ unitUnder l w → Skips w u
+skipped l w e = rw e (skips l w)
+
 word-small : (w : List ℕ) (u : Word) → length w ≤ 65535 → length (unitBytes w u) ≤ 65538
 unfolding unitBytes
-word-small w (Numeral l f v) h = omega (arith, numeral-len w l f v)
-word-small w (Keyed k) h = omega (arith, keyed-len w k)
+word-small w (Numeral l f v) h = omega (arith, numeral-len w l f v refl)
+word-small w (Keyed k) h = omega (arith, keyed-size w k refl)
 word-small w Identifier h = omega arith
 word-small w Symbolic h = omega arith
 word-small w Unreadable h = omega arith
@@ -100,23 +106,44 @@ unfolding bytesFrom
 units-small zero l cs ts n = omega arith
 units-small (suc d) l cs ts n = omega (arith, units-small d l cs ts n, unit-small l cs ts (n + d), length-append (bytesFrom l cs ts n d) (bytesAt l cs ts (n + d)))
 
--- the ways through `unit_len` and `put_unit`
-module _ (l : ℕ) (cs ts : List ℕ) (n : ℕ) where
-  pub bytes-word : kindIn (getD ts (n + n) 0) ≡ 10
-      → bytesAt l cs ts n ≡ unitBytes (contentIn cs (getD ts (n + n) 0)) (unitUnder l (contentIn cs (getD ts (n + n) 0)))
-  unfolding bytesAt fieldIn
-  bytes-word h = rw h
+-- the ways through `unit_len` and `put_unit`: what is cut out of the contents is the unit's content
+module _ (l : ℕ) (cs ts : List ℕ) (n : ℕ) {from to k : ℕ} (f : from ≡ startIn (getD ts (n + n) 0) (length cs)) (o : to ≡ endIn (getD ts (n + n) 0) (length cs))
+    (e : k ≡ kindIn (getD ts (n + n) 0)) where
+  module _ {u : Word} (g : k ≡ wordKind) (w : u ≡ unitUnder l (take (to - from) (drop from cs))) where
+    word-is : bytesAt l cs ts n ≡ unitBytes (take (to - from) (drop from cs)) u
+    unfolding bytesAt fieldIn
+    word-is = rw (← e, g, w, cut-is cs (getD ts (n + n) 0) f o)
 
-  pub bytes-string : (kindIn (getD ts (n + n) 0) ≡ 10 → ⊥) → bytesAt l cs ts n ≡ fieldBytes (unitField (text (contentIn cs (getD ts (n + n) 0))))
-  unfolding bytesAt fieldIn
-  bytes-string h = rw (ne-eqb (kindIn (getD ts (n + n) 0)) 10 h)
+    pub word-len : {r : ℕ} → r ≡ length (unitBytes (take (to - from) (drop from cs)) u) → r ≡ length (bytesAt l cs ts n)
+    word-len q = rw word-is q
+
+    pub word-room : (m : ℕ) → length (bytesAt l cs ts n) ≤ m → length (unitBytes (take (to - from) (drop from cs)) u) ≤ m
+    word-room m h = rw word-is at h
+
+    pub word-over : (old : List ℕ) {new : List ℕ} → new ≡ over (unitBytes (take (to - from) (drop from cs)) u) old → new ≡ over (bytesAt l cs ts n) old
+    word-over old q = rw word-is q
+
+  module _ (g : k ≡ wordKind → ⊥) where
+    string-is : bytesAt l cs ts n ≡ fieldBytes (field 11 (take (to - from) (drop from cs)))
+    unfolding bytesAt fieldIn
+    string-is = rw (← e, ne-eqb k wordKind g, cut-is cs (getD ts (n + n) 0) f o)
+
+    pub string-len : {r : ℕ} → r ≡ 3 + length (take (to - from) (drop from cs)) → r ≡ length (bytesAt l cs ts n)
+    string-len q = rw string-is (omega arith)
+
+    pub string-size : 3 + (to - from) ≡ length (bytesAt l cs ts n)
+    string-size = string-len (rw (cut-is cs (getD ts (n + n) 0) f o) (omega (arith, cut-size cs (getD ts (n + n) 0) f o)))
+
+    pub string-fits : Fits w64 (3 + (to - from))
+    string-fits = omega (arith, cut-size cs (getD ts (n + n) 0) f o, content-small cs (getD ts (n + n) 0))
+
+    pub string-room : (m : ℕ) → length (bytesAt l cs ts n) ≤ m → 3 + length (take (to - from) (drop from cs)) ≤ m
+    string-room m h = omega (arith, string-len refl)
+
+    pub string-over : (old : List ℕ) {new : List ℕ} → new ≡ over (fieldBytes (field 11 (take (to - from) (drop from cs)))) old → new ≡ over (bytesAt l cs ts n) old
+    string-over old q = rw string-is q
 
 -- ---- an element
-
--- fields one behind the other
-pub bytes-append : (xs ys : List Field) → bytesOf (xs ++ ys) ≡ bytesOf xs ++ bytesOf ys
-bytes-append [] ys = refl
-bytes-append (x ∷ xs) ys = rw (bytes-append xs ys) (sym (append-assoc (fieldBytes x) (bytesOf xs) (bytesOf ys)))
 
 -- units, and one more behind them
 bytes-snoc : (xs : List Unit) (i : Unit) → bytesOf (map unitField (xs ++ (i ∷ []))) ≡ bytesOf (map unitField xs) ++ fieldBytes (unitField i)
@@ -154,8 +181,3 @@ module _ (b : Base) (l : ℕ) (own : l ≡ letter b) (ts cs : List ℕ) (es : Li
   unfolding elementBytes
   element-is x e nx f k m q hl hu h g =
       rw (q, units-are k f h, unit-is m g, ← hl, ← hu) (sym (element-fields nx e))
-
--- the word that is lent to a measurer or writer of its field
-pub lent : (l : ℕ) (cs : List ℕ) (t : ℕ) {from to : ℕ} {u : Word} → Cuts cs t from to → u ≡ unitUnder l (take (to - from) (drop from cs))
-    → (length (take (to - from) (drop from cs)) < 65536) × Skips (take (to - from) (drop from cs)) u
-lent l cs t {from} {to} c w = rw w (rw (c .is) (omega (arith, content-small cs t)), skips l (take (to - from) (drop from cs)))

@@ -1,8 +1,8 @@
 -- A walk over the elements of a value without fault: what the code finds at each turn is the rules' next element, with its bytes.
-use Prim.Native.Nat.{ℕ, _+_, _-_, _≤_, _<_}
+use Prim.Native.Nat.{ℕ, _+_, _-_, _*_, _^_, _≤_, _<_}
 use mathlib.Core.Path.{_≡_, refl, sym, _∙_, ap}
 use mathlib.Core.Bool.{cond}
-use mathlib.Core.List.{List, [], _∷_, _++_, append-assoc, append-nil}
+use mathlib.Core.List.{List, [], _∷_, _++_, append-nil}
 use native.Mathlib.Omega.{arith}
 use lib.Dec.{eqb}
 use lib.ListN.{length}
@@ -12,6 +12,7 @@ use Rattle.rules.specs.Records.{field, fieldBytes, bytesOf, elementFields, many
 use Rattle.rules.specs.Refusals.{ok}
 use Rattle.rules.specs.Tokens.{sepCode, amp-}
 use Rattle.rules.specs.Units.{Base, letter}
+use Rattle.rules.proofs.FieldLaws.{bytes-append, many-append}
 use Rattle.rules.proofs.ResultLaws.{ok-inj}
 use Rattle.token_table.specs.Table.{tokensIn}
 use Rattle.read_joins.specs.Joins.{joinsIn, kindAt, unitAt, nextAt, count, sepKind}
@@ -28,7 +29,7 @@ use Rattle.read_elements.proofs.EachLaws.{Between, between-none, between-end, t
 use Rattle.read_value.specs.Passes.{Faultless}
 use Rattle.read_value.proofs.FaultlessLaws.{sound}
 use Rattle.value_fields.specs.Measure.{bytesAt, bytesFrom, elementBytes}
-use Rattle.value_fields.proofs.BytesLaws.{bytes-append, element-is}
+use Rattle.value_fields.proofs.BytesLaws.{element-is}
 
 -- ---- the bytes of elements
 
@@ -36,10 +37,7 @@ abbrev pub valueBytes : List Element → List ℕ
 valueBytes es = bytesOf (many elementFields es)
 
 pub value-append : (xs ys : List Element) → valueBytes (xs ++ ys) ≡ valueBytes xs ++ valueBytes ys
-value-append [] ys = refl
-value-append (x ∷ xs) ys =
-    rw (bytes-append (elementFields x) (many elementFields (xs ++ ys)), bytes-append (elementFields x) (many elementFields xs), value-append xs ys)
-    (sym (append-assoc (bytesOf (elementFields x)) (valueBytes xs) (valueBytes ys)))
+value-append xs ys = ap bytesOf (many-append elementFields xs ys) ∙ bytes-append (many elementFields xs) (many elementFields ys)
 
 pub value-snoc : (xs : List Element) (e : Element) → valueBytes (xs ++ (e ∷ [])) ≡ valueBytes xs ++ bytesOf (elementFields e)
 value-snoc xs e = value-append xs (e ∷ []) ∙ ap (λ x. valueBytes xs ++ bytesOf x) (append-nil (elementFields e))
@@ -79,26 +77,40 @@ module _ (l : ℕ) (cs ts : List ℕ) where
         let d = between-end (joinsIn l cs ts) w (omega (arith, joins-length l cs ts)) in
         ok-inj (sym d ∙ rw own (sound b ts cs e es g .groups))
 
-    pub met : {x : Shape} {s : Step} {kd f′ la : ℕ} → Faultless ts cs l → n < m → Later (joinsIn l cs ts) k n x → s ≡ stepOf x → kd ≡ sepKind ts n
-        → f′ ≡ cond (eqb kd (sepCode amp-)) f n → la ≡ cond (eqb kd (sepCode amp-)) n (n + k) → Met l cs ts k done n x (s .next) f′ la
-    met {x} {s} {kd} {f′} {la} v h y q ek ef ea =
-        let js = joinsIn l cs ts in
-        let t = turn js w (omega (arith, joins-length l cs ts)) in
-        let st = t .stands in
-        let a = turn-answer js t y in
-        let kn : kindAt js n ≡ kd = kind-is l cs ts n ∙ sym ek in
-        let zf : frontAt js f n ≡ f′ = rw (kn, ef) in
-        let zl : lastAt js k n ≡ la = rw (kn, ea) in
-        let zn : nextAt js (n + 1) ≡ s .next = sym (ap (λ r. r .next) (q ∙ ap stepOf a) ∙ next-of (nextAt js (n + 1)) (t .el)) in
-        let hf : f′ + k ≤ count ts = omega (arith, st .front-inside, joins-length l cs ts) in
-        let hl : la < count ts = omega (arith, st .last-inside, joins-length l cs ts) in
-        record {
-          el = t .el;
-          bytes = element-is (v .base) l (v .own) ts cs (v .es) (sound (v .base) ts cs (v .end) (v .es) (v .is)) x (t .el) (nextAt js (n + 1)) f′ k la a
-              (rw (← zf) (st .leads)) (rw (← zl) (st .last)) hf hl;
-          then = rw (← zf, ← zn) (t .then);
-          few = t .few;
-          on = omega (arith, next-from js (n + 1));
-          front = hf;
-          last = hl;
-        }
+    -- the last unit's index fits
+    pub last-small : n < m → length ts * 8 < 2 ^ 63 → n + k < 18446744073709551616
+    last-small h g = omega (arith, w .short)
+
+    module _ {x : Shape} {s : Step} {kd f′ la : ℕ} (v : Faultless ts cs l) (h : n < m) (y : Later (joinsIn l cs ts) k n x) (q : s ≡ stepOf x) (ek : kd ≡ sepKind ts n)
+        (ef : f′ ≡ cond (eqb kd (sepCode amp-)) f n) (ea : la ≡ cond (eqb kd (sepCode amp-)) n (n + k)) where
+      pub met : Met l cs ts k done n x (s .next) f′ la
+      met =
+          let js = joinsIn l cs ts in
+          let t = turn js w (omega (arith, joins-length l cs ts)) in
+          let st = t .stands in
+          let a = turn-answer js t y in
+          let kn : kindAt js n ≡ kd = kind-is l cs ts n ∙ sym ek in
+          let zf : frontAt js f n ≡ f′ = rw (kn, ef) in
+          let zl : lastAt js k n ≡ la = rw (kn, ea) in
+          let zn : nextAt js (n + 1) ≡ s .next = sym (ap (λ r. r .next) (q ∙ ap stepOf a) ∙ next-of (nextAt js (n + 1)) (t .el)) in
+          let hf : f′ + k ≤ count ts = omega (arith, st .front-inside, joins-length l cs ts) in
+          let hl : la < count ts = omega (arith, st .last-inside, joins-length l cs ts) in
+          record {
+            el = t .el;
+            bytes = element-is (v .base) l (v .own) ts cs (v .es) (sound (v .base) ts cs (v .end) (v .es) (v .is)) x (t .el) (nextAt js (n + 1)) f′ k la a
+                (rw (← zf) (st .leads)) (rw (← zl) (st .last)) hf hl;
+            then = rw (← zf, ← zn) (t .then);
+            few = t .few;
+            on = omega (arith, next-from js (n + 1));
+            front = hf;
+            last = hl;
+          }
+
+      pub met-front : f′ + k ≤ count ts
+      met-front = met .front
+
+      pub met-last : la < count ts
+      met-last = met .last
+
+      pub met-less : count ts - s .next < count ts - n
+      met-less = omega (arith, met .on)

@@ -1,9 +1,9 @@
 -- The digits still to come, written over the buffer as it is, give the final buffer.
+use borrow.Author.Needs.{needs}
 use Rattle.digits.specs.Digits.{fixed}
 use Prim.Native.Nat.{_-_, _≤_}
 use native.Mathlib.Nat.{mod-lt}
-use denote.Ref.{now}
-use Rattle.digits.proofs.DigitLaws.{Writing, writing-none, writing-more, writing-all}
+use Rattle.digits.proofs.DigitLaws.{Writing, writing-more, writing-all}
 use native.Mathlib.Omega.{arith}
 use Rattle.digits.proofs.put_digits.Statement.{statement}
 use Rattle.digits.proofs.put_digits.Tie as tie
@@ -14,20 +14,11 @@ Inv-loop out₀ k n base m₀ i₀ out m i = Writing (fixed k base n) out₀ bas
 abbrev μ-loop : tie.MeasureT-loop
 μ-loop out₀ k n base m₀ i₀ out m i = i
 
-loop-holds : tie.Need-loop-holds Inv-loop μ-loop
-loop-holds c = let a = c .before .args in writing-none (a .k) (a .base) (a .n) (now (a .out)) (c .before .pre .2)
-
 digit-char-requires : tie.Need-digit-char-requires Inv-loop μ-loop
 digit-char-requires c κs = let z : 1 ≤ c .before .before .before .args .base = omega arith in omega (arith, mod-lt (c .before .loop .m) z)
 
-slice-write-out : tie.Need-slice-write-out Inv-loop μ-loop
-slice-write-out c = omega (arith, c .before .before .loop .inv)
-
 loop-again : tie.Need-loop-again Inv-loop μ-loop
 loop-again c = rw (c .digit-char .ensures) (writing-more (c .before .before .loop .i - 1) (omega arith) (c .before .before .loop .inv))
-
-same-length : tie.Need-same-length Inv-loop μ-loop
-same-length c = c .before .loop .inv .long
 
 returns : tie.Need-returns Inv-loop μ-loop
 returns c = writing-all (omega arith) (c .before .loop .inv)
@@ -38,13 +29,13 @@ put-digits-spec =
     (tie.spec
     Inv-loop
     μ-loop
-    loop-holds
+    (λ c. search needs)
     (λ c. omega arith)
     (λ c. omega arith)
     digit-char-requires
-    slice-write-out
+    (λ c. search needs)
     (λ c. omega arith)
     (λ c. omega arith)
     loop-again
-    same-length
+    (λ c. search needs)
     returns)

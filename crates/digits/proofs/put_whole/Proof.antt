@@ -25,7 +25,7 @@ returns c =
     rw one (refl, rw (c .digit-char .ensures) (sets-eq (digitChar (a .n) ∷ []) (now (a .out)) 0 room))
 
 returns-2 : tie.Need-returns-2
-returns-2 c = let a = c .before .before .before .before .before .before .before .args in (c .before .before .before .before .digit-count .ensures, c .before .before .put-digits .ensures ∙ ap (λ (x : List ℕ). over x (now (a .out))) (whole-fixed (a .base) (a .n) (c .before .before .before .before .digit-count .result) (omega arith) (c .before .before .before .before .digit-count .ensures)))
+returns-2 c = let s : tie.Start = search in let a = s .args in (c .before .before .before .before .digit-count .ensures, c .before .before .put-digits .ensures ∙ ap (λ (x : List ℕ). over x (now (a .out))) (whole-fixed (a .base) (a .n) (c .before .before .before .before .digit-count .result) (omega arith) (c .before .before .before .before .digit-count .ensures)))
 
 pub put-whole-spec : {M : Type 1} → statement M
 put-whole-spec = tie.close (tie.spec (λ c κs. search needs) slice-write-out (λ c. search needs) returns (λ c κs. search needs) (λ c κs. search needs) (λ c. search needs) returns-2)

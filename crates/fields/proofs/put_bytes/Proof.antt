@@ -1,46 +1,32 @@
 -- What is copied so far lies over the start of the buffer.
 use borrow.Author.Needs.{needs}
 use native.Mathlib.Omega.{arith}
-use Prim.Native.Nat.{_≤_, _-_}
-use mathlib.Core.Path.{_≡_}
-use denote.Ref.{now}
-use lib.ListN.{length, length-take, take}
-use Rattle.laws.specs.Over.{over, over-take, over-all, length-over}
+use Prim.Native.Nat.{_-_}
+use lib.ListN.{length}
+use Rattle.fields.proofs.CopyLaws.{Copying, copying-none, copying-long, copying-more, copying-all}
 use Rattle.fields.proofs.put_bytes.Statement.{statement}
 use Rattle.fields.proofs.put_bytes.Tie as tie
 
 abbrev Inv-loop : tie.InvT-loop
-Inv-loop out₀ content i₀ out i = (i ≤ length content) × (length content ≤ length out₀) × (out ≡ over (take i content) out₀)
+Inv-loop out₀ content i₀ out i = Copying content out₀ out i
 
 abbrev μ-loop : tie.MeasureT-loop
 μ-loop out₀ content i₀ out i = length content - i
 
 loop-holds : tie.Need-loop-holds Inv-loop μ-loop
-loop-holds c = (search needs, search needs, search needs)
+loop-holds c = search (needs, copying-none)
 
 slice-write-out : tie.Need-slice-write-out Inv-loop μ-loop
-slice-write-out c =
-    let l = c .before .before .loop in
-    let a = c .before .before .before .args in
-    rw (l .inv .2, length-over (take (l .i) (now (a .content))) (now (a .out)) (simp length-take (omega arith))) (omega arith)
+slice-write-out c = omega (arith, copying-long (c .before .before .loop .inv))
 
 loop-again : tie.Need-loop-again Inv-loop μ-loop
-loop-again c =
-    let l = c .before .before .loop in
-    let a = c .before .before .before .args in
-    (search needs, search needs, rw (l .inv .2, over-take (now (a .content)) (now (a .out)) (l .i) (omega arith) (omega arith)))
+loop-again c = search (needs, copying-more)
 
 same-length : tie.Need-same-length Inv-loop μ-loop
-same-length c =
-    let l = c .before .loop in
-    let a = c .before .before .args in
-    rw (l .inv .2, length-over (take (l .i) (now (a .content))) (now (a .out)) (simp length-take (omega arith)))
+same-length c = search (needs, copying-long)
 
 returns : tie.Need-returns Inv-loop μ-loop
-returns c =
-    let l = c .before .loop in
-    let a = c .before .before .args in
-    rw (l .inv .2, over-all (now (a .content)) (now (a .out)) (l .i) (omega arith))
+returns c = search (needs, copying-all)
 
 pub put-bytes-spec : {M : Type 1} → statement M
 put-bytes-spec =

@@ -1,22 +1,11 @@
 -- The header and the content are written one behind the other.
 use borrow.Author.Needs.{needs}
-use mathlib.Core.Path.{refl}
-use mathlib.Core.List.{_∷_}
-use denote.Ref.{now}
-use lib.ListN.{length}
-use Rattle.laws.specs.Over.{back-over}
-use Rattle.fields.specs.Units.{twoBytes}
+use Rattle.fields.proofs.CopyLaws.{content-behind}
 use Rattle.fields.proofs.put_field.Statement.{statement}
 use Rattle.fields.proofs.put_field.Tie as tie
 
 returns : tie.Need-returns
-returns c =
-    let c1 = c .before .before .before .before .before .before in
-    let a = c1 .before .before .before .before .args in (
-      refl,
-      back-over (a .tag ∷ twoBytes (length (now (a .content)))) (now (a .content)) (now (a .out)) (c1 .put-header .ensures) refl
-          (c .before .before .put-bytes .ensures),
-    )
+returns c = search (needs, content-behind)
 
 pub put-field-spec : {M : Type 1} → statement M
 put-field-spec =

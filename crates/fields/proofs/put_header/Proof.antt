@@ -10,9 +10,9 @@ use Rattle.fields.proofs.put_header.Tie as tie
 
 returns : tie.Need-returns
 returns c =
-    let c1 = c .before .before .before .before .before .before in
-    let a = c1 .before .before .before .args in
-    back-over (a .tag ∷ []) (twoBytes (a .n)) (now (a .out)) (c1 .put-u8 .ensures) refl (c .before .before .put-u16 .ensures)
+    let d : tie.After-put-u8 = search in
+    let a = d .before .before .before .args in
+    back-over (a .tag ∷ []) (twoBytes (a .n)) (now (a .out)) (d .put-u8 .ensures) refl (c .before .before .put-u16 .ensures)
 
 pub put-header-spec : {M : Type 1} → statement M
 put-header-spec =

@@ -1,24 +1,12 @@
 -- The header and the capitals are written one behind the other; there are as many capitals as characters.
 use borrow.Author.Needs.{needs}
-use mathlib.Core.Path.{refl}
-use mathlib.Core.List.{_∷_, map}
-use denote.Ref.{now}
-use lib.ListN.{length, length-map}
-use Rattle.laws.specs.Over.{back-over}
-use Rattle.rules.specs.Characters.{capital}
-use Rattle.fields.specs.Units.{twoBytes}
+use lib.ListN.{length-map}
+use Rattle.fields.proofs.CopyLaws.{content-behind}
 use Rattle.fields.proofs.put_keyed.Statement.{statement}
 use Rattle.fields.proofs.put_keyed.Tie as tie
 
 returns : tie.Need-returns
-returns c =
-    let c1 = c .before .before .before .before .before .before in
-    let a = c1 .before .before .before .before .args in
-    let w = now (a .content) in (
-      refl,
-      rw (length-map w capital)
-          (back-over (8 ∷ twoBytes (length w)) (map capital w) (now (a .out)) (c1 .put-header .ensures) refl (c .before .before .put-capitals .ensures)),
-    )
+returns c = search (needs, content-behind, length-map)
 
 pub put-keyed-spec : {M : Type 1} → statement M
 put-keyed-spec =

@@ -13,10 +13,11 @@ use Rattle.fields.proofs.put_numeral.Tie as tie
 returns : tie.Need-returns
 unfolding numeralBytes
 returns c =
-    let fraction = c .before .before .before .before .before .before in
-    let letter = fraction .before .before .before .before in
-    let head = letter .before .before .before .before in
-    let a = head .before .before .before .args in
+    let fraction : tie.After-put-u82 = search in
+    let letter : tie.After-put-u8 = search in
+    let head : tie.After-put-header = search in
+    let start : tie.Start = search in
+    let a = start .args in
     let old = now (a .out) in
     let e : List ℕ = 7 ∷ twoBytes 6 in
     let one = back-over e (a .letter ∷ []) old (head .put-header .ensures) refl (letter .put-u8 .ensures) in

@@ -1,34 +1,29 @@
 -- The length of each kind is that of its field.
 use borrow.Author.Needs.{needs}
-use mathlib.Core.Path.{sym}
-use Rattle.fields.specs.Units.{unitBytes}
-use Rattle.fields.proofs.UnitLaws.{numeral-len, keyed-len, identifier-len, symbolic-len}
-use denote.Ref.{now}
+use Rattle.fields.proofs.UnitLaws.{keyed-inside, numeral-len, keyed-size, identifier-size, symbolic-size, whole-len, unreadable-none, big-none}
 use Rattle.fields.proofs.unit_len.Statement.{statement}
 use Rattle.fields.proofs.unit_len.Tie as tie
 
 sub-result : tie.Need-sub-result
-sub-result c = rw (c .before .unit2 .given .1) at (c .before .before .before .pre .1)
+sub-result c = search (needs, keyed-inside)
 
 returns : tie.Need-returns
-returns c = rw (c .before .unit .given .1) (sym (numeral-len (now (c .before .before .before .args .word)) (c .before .unit .given .0 .0) (c .before .unit .given .0 .1 .0) (c .before .unit .given .0 .1 .1 .0)))
+returns c = search (needs, numeral-len)
 
 returns-2 : tie.Need-returns-2
-returns-2 c = rw (c .before .unit2 .given .1) (sym (keyed-len (now (c .before .before .before .args .word)) (c .before .unit2 .given .0 .0)))
+returns-2 c = search (needs, keyed-size)
 
 returns-3 : tie.Need-returns-3
-returns-3 c = rw (c .enum-told .given .1) (sym (identifier-len (now (c .before .before .args .word))))
+returns-3 c = search (needs, whole-len, identifier-size)
 
 returns-4 : tie.Need-returns-4
-returns-4 c = rw (c .enum-told2 .given .1) (sym (symbolic-len (now (c .before .before .args .word))))
+returns-4 c = search (needs, whole-len, symbolic-size)
 
 returns-5 : tie.Need-returns-5
-unfolding unitBytes
-returns-5 c = rw (c .enum-told3 .given .1)
+returns-5 c = search (needs, unreadable-none)
 
 returns-6 : tie.Need-returns-6
-unfolding unitBytes
-returns-6 c = rw (c .enum-told4 .given .1)
+returns-6 c = search (needs, big-none)
 
 pub unit-len-spec : {M : Type 1} → statement M
 unit-len-spec =

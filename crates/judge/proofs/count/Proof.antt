@@ -1,17 +1,14 @@
 -- `count` meets its contract: the judge's answer is the count, or the refusal.
-use Rattle.judge.specs.Judged.{Judges}
-use Rattle.judge.proofs.JudgeLaws.{counts-good, counts-bad}
-use denote.Ref.{now}
-use mathlib.Core.Path.{subst}
+use Rattle.judge.proofs.RecordBytes.{counts-good, counts-bad}
 use borrow.Author.Needs.{needs}
 use Rattle.judge.proofs.count.Statement.{statement}
 use Rattle.judge.proofs.count.Tie as tie
 
 returns : tie.Need-returns
-returns c = counts-good (subst (Judges (now (c .before .before .before .before .before .before .before .args .rec)) _ _) (c .before .total .given .1) (c .before .before .before .before .judge .ensures))
+returns c = search (needs, counts-good)
 
 returns-2 : tie.Need-returns-2
-returns-2 c = counts-bad _ (subst (Judges (now (c .before .before .before .before .before .before .args .rec)) _ _) (c .enum-told .given .1) (c .before .before .before .judge .ensures))
+returns-2 c = search (needs, counts-bad)
 
 pub count-spec : {M : Type 1} → statement M
 count-spec =

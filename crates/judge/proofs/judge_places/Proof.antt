@@ -1,82 +1,67 @@
 -- `judge_places` meets its contract: a place stands first, each turn reads one more, whose name is new, and the first that does not fit refuses all.
 use borrow.Author.Needs.{needs}
-use mathlib.Core.Path.{_≡_, refl, sym, _∙_, ap, subst}
-use Prim.Native.Nat.{_-_, _%_}
-use lib.Arith.{lt-of-le-ne}
-use native.Mathlib.Omega.{arith}
+use Prim.Native.Nat.{_-_}
 use denote.Ref.{now}
-use Rattle.judge.specs.Judged.{NextIs, NextAs}
-use Rattle.judge.proofs.PlacesLaws.{PlacesRead, places-none, no-place, some-read, places-end, places-full, places-bad, told-inside, orders-is, places-many, places-more}
+use Rattle.judge.specs.Judged.{NextIs}
+use Rattle.judge.proofs.PlacesLaws.{PlacesRead, places-none, no-place, place-here, room-left, places-end, places-full, places-bad, next-there, begin-told, end-told, places-many, places-more}
+use Rattle.judge.proofs.SpanLaws.{row-threes}
 use Rattle.judge.proofs.judge_places.Statement.{statement}
 use Rattle.judge.proofs.judge_places.Tie as tie
 
 abbrev Inv-loop : tie.InvT-loop
 Inv-loop rec from named before orders row₀ at₀ places₀ total₀ marks₀ row at places total marks =
-    PlacesRead named rec from before orders row₀ row at places total marks × (places ≡ before → at ≡ from)
+    PlacesRead named rec from before orders row₀ row at places total marks
 
 abbrev μ-loop : tie.MeasureT-loop
 μ-loop rec from named before orders row₀ at₀ places₀ total₀ marks₀ row at places total marks = 32 - places
 
--- the place that stands there
-the-place : (c : tie.After-known-told Inv-loop μ-loop) → let l = c .before .before .before .before .before .before .before .loop in let a = c .before .before .before .before .before .before .before .before .before .before .before .before .before .args in let v = c .before .number .given .0 in
-    NextIs (a .named) (now (a .rec)) (a .from) (l .at) (l .marks) (l .inv .0 .done) (v .0) (v .1 .0) (v .1 .1 .0) (v .1 .1 .1 .0)
-the-place c =
-    let l = c .before .before .before .before .before .before .before .loop in
-    let a = c .before .before .before .before .before .before .before .before .before .before .before .before .before .args in
-    subst (NextAs (a .named) (now (a .rec)) (a .from) (l .at) (l .marks) (l .inv .0 .done)) (c .before .number .given .1) (c .before .before .before .judge-next .ensures (l .inv .0 .done) (l .inv .0 .stand))
-
 returns : tie.Need-returns Inv-loop μ-loop
-returns c = no-place _ _ _ _ (c .before .head-tag .ensures) (c .if1 .taken)
+returns c = search (needs, no-place)
 
 loop-holds : tie.Need-loop-holds Inv-loop μ-loop
-loop-holds c = let p = c .before .before .before .before .before .pre in (places-none _ _ _ _ _ _ _ (p .0) (p .2) (p .3), λ e. refl)
-
-head-tag-requires-2 : tie.Need-head-tag-requires-2 Inv-loop μ-loop
-head-tag-requires-2 c κs = c .loop .inv .0 .stand .inside
+loop-holds c = search (needs, places-none)
 
 returns-2 : tie.Need-returns-2 Inv-loop μ-loop
-returns-2 c = places-full (c .before .before .before .loop .inv .0) (c .before .before .head-tag2 .ensures) (c .before .if2 .taken) (c .if3 .taken)
+returns-2 c = search (needs, places-full)
 
 judge-next-requires : tie.Need-judge-next-requires Inv-loop μ-loop
-judge-next-requires c κs = let v = c .before .before .before .loop .inv .0 in (sym (c .before .before .head-tag2 .ensures) ∙ c .before .if2 .taken, (v .done, v .stand))
+judge-next-requires c κs = let v = c .before .before .before .loop .inv in (search (needs, place-here), (v .done, v .stand))
+
+-- the turn at which a place was judged
+abbrev turn : tie.After-judge-next Inv-loop μ-loop → tie.At-loop Inv-loop μ-loop
+turn c = c .before .before .before .before
 
 returns-3 : tie.Need-returns-3 Inv-loop μ-loop
 returns-3 c =
-    let l = c .before .before .before .before .before .before .loop in
-    let a = c .before .before .before .before .before .before .before .before .before .before .before .before .args in
-    places-bad (l .inv .0) (c .before .before .before .before .before .head-tag2 .ensures) (c .before .before .before .before .if2 .taken) (c .before .before .before .if3 .left)
-    (subst (NextAs (a .named) (now (a .rec)) (a .from) (l .at) (l .marks) (l .inv .0 .done)) (c .enum-told .given .1) (c .before .before .judge-next .ensures (l .inv .0 .done) (l .inv .0 .stand)))
+    let t = turn (c .before .before) in
+    places-bad (t .loop .inv) (c .before .before .before .before .before .head-tag2 .ensures) (c .before .before .judge-next .ensures) (c .enum-told .given .1) (c .before .before .before .before .if2 .taken) (c .before .before .before .if3 .left)
+
+-- the place that stands there
+the-place : (c : tie.After-known-told Inv-loop μ-loop) →
+    let t = turn (c .before .before .before) in let l = t .loop in let f = t .before .before .before in let a = f .before .before .before .args in let v = c .before .number .given .0 in
+    NextIs (a .named) (now (a .rec)) (a .from) (l .at) (l .marks) (l .inv .done) (v .0) (v .1 .0) (v .1 .1 .0) (v .1 .1 .1 .0)
+the-place c =
+    let j = c .before .before .before in
+    next-there (turn j .loop .inv) (j .before .before .before .head-tag2 .ensures) (j .judge-next .ensures) (c .before .number .given .1)
 
 times-requires : tie.Need-times-requires Inv-loop μ-loop
-times-requires c κs = (c .before .before .before .before .before .before .before .loop .inv .0 .small, the-place c .few)
+times-requires c κs = search (needs, the-place c)
 
 returns-4 : tie.Need-returns-4 Inv-loop μ-loop
 returns-4 c =
-    let k = c .before .before .before in
-    places-many (k .before .before .before .before .before .before .before .loop .inv .0) (k .before .before .before .before .before .before .head-tag2 .ensures) (the-place k) refl (k .before .before .before .before .before .if2 .taken) (k .before .before .before .before .if3 .left)
-    (orders-is _ _ (sym (c .enum-told2 .given .1) ∙ c .before .before .times .ensures))
+    let k = c .before .before .before in let j = k .before .before .before in
+    places-many (turn j .loop .inv) (j .before .before .before .head-tag2 .ensures) (the-place k) (j .before .before .if2 .taken) (j .before .if3 .left) (c .before .before .times .ensures) (c .enum-told2 .given .1)
 
 tell-span-requires : tie.Need-tell-span-requires Inv-loop μ-loop
-tell-span-requires c κs =
-    let k = c .before .before .before .before .before in
-    let l = k .before .before .before .before .before .before .before .loop in
-    let p = k .before .before .before .before .before .before .before .before .before .before .before .before .before .pre in
-    let i = told-inside (l .inv .0) (k .before .before .before .before .before .before .head-tag2 .ensures) (the-place k) (p .1) in
-    (ap (λ n. n % 3) (l .inv .0 .long) ∙ p .4, lt-of-le-ne (l .inv .0 .few) (k .before .before .before .before .if3 .left), the-place k .few, i .0, i .1)
+tell-span-requires c κs = search (needs, row-threes, room-left, begin-told, end-told, the-place (c .before .before .before .before .before))
 
 loop-again : tie.Need-loop-again Inv-loop μ-loop
 loop-again c =
-    let k = c .before .before .before .before .before .before .before .before .before in
-    let l = k .before .before .before .before .before .before .before .loop in
-    let o = orders-is _ _ (sym (c .before .before .before .before .before .before .product .given .1) ∙ c .before .before .before .before .before .before .before .before .times .ensures) in
-    (places-more (l .inv .0) (k .before .before .before .before .before .before .head-tag2 .ensures) (the-place k) (o .0) (k .before .before .before .before .before .if2 .taken) (k .before .before .before .before .if3 .left) (o .1) (c .add-if .ensures) (c .before .before .before .tell-span .ensures), λ e. absurd (omega (arith, l .inv .0 .number)))
+    let t = c .before .before .before in let o = t .before .before .before in let k = o .before .before .before in let j = k .before .before .before in
+    places-more (turn j .loop .inv) (j .before .before .before .head-tag2 .ensures) (the-place k) (j .before .before .if2 .taken) (j .before .if3 .left) (o .before .before .times .ensures) (o .product .given .1) (c .add-if .ensures) (t .tell-span .ensures)
 
 returns-5 : tie.Need-returns-5 Inv-loop μ-loop
-returns-5 c =
-    let l = c .before .before .loop in
-    let t = c .before .head-tag2 .ensures in
-    let first = sym (c .before .before .before .before .before .head-tag .ensures) ∙ c .before .before .before .before .if1 .left in
-    places-end (l .inv .0) t (c .if2 .left) (some-read (l .inv .0) t first (l .inv .1) (c .if2 .left))
+returns-5 c = search (needs, places-end)
 
 pub judge-places-spec : {M : Type 1} → statement M
 judge-places-spec =
@@ -88,7 +73,7 @@ judge-places-spec =
     returns
     (λ c κs. search needs)
     loop-holds
-    head-tag-requires-2
+    (λ c κs. search needs)
     (λ c. search needs)
     returns-2
     judge-next-requires

@@ -8,8 +8,8 @@ use Rattle.judge_value.proofs.range_terms.Tie as tie
 
 returns : tie.Need-returns
 returns c =
-    let a = c .before .before .before .before .before .before .args in
-    c .more-terms .ensures ∙ ap (termsOf (now (a .rec)) (a .ends)) (sym (c .before .before .lower .given .1) ∙ c .before .before .before .before .lower-end .ensures)
+    let l = c .before .before .before .before in let a = l .before .before .args in
+    c .more-terms .ensures ∙ ap (termsOf (now (a .rec)) (a .ends)) (sym (c .before .before .lower .given .1) ∙ l .lower-end .ensures)
 
 returns-2 : tie.Need-returns-2
 returns-2 c =

@@ -6,8 +6,5 @@ use Rattle.marks.proofs.add_if.Tie as tie
 returns : tie.Need-returns
 returns c = rw (c .before .if1 .taken) (c .add .ensures)
 
-returns-2 : tie.Need-returns-2
-returns-2 c = rw (c .if1 .left)
-
 pub add-if-spec : {M : Type 1} → statement M
-add-if-spec = tie.close (tie.spec (λ c κs. search needs) returns returns-2)
+add-if-spec = tie.close (tie.spec (λ c κs. search needs) returns (λ c. search needs))

@@ -14,7 +14,8 @@ returns c = rw (eq-eqb (length (now (c .before .before .args .word))) 0 (c .if1 
 returns-2 : tie.Need-returns-2
 unfolding keyOf
 returns-2 c =
-    let a = c .before .before .before .before .before .before .before .before .args in
+    let s : tie.Start = search in
+    let a = s .args in
     rw (ne-eqb (length (now (a .word))) 0 (c .before .before .before .before .before .before .if1 .left), ← c .before .before .before .but-one .ensures) (c .mixed .ensures)
 
 pub key-spec : {M : Type 1} → statement M

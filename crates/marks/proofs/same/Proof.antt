@@ -2,7 +2,7 @@
 use borrow.Author.Needs.{needs}
 use lib.ListN.{length}
 use Prim.Native.Nat.{_-_}
-use Rattle.marks.proofs.SameLaws.{unlike, Same, same-none, same-end, same-stop, same-more}
+use Rattle.marks.proofs.SameLaws.{unlike, Same, same-end, same-stop, same-more}
 use native.Mathlib.Omega.{arith}
 use denote.Ref.{now}
 use Rattle.marks.proofs.same.Statement.{statement}
@@ -16,9 +16,6 @@ abbrev μ-loop : tie.MeasureT-loop
 
 returns : tie.Need-returns Inv-loop μ-loop
 returns c = unlike (now (c .before .args .a)) (now (c .before .args .b)) (c .if1 .taken)
-
-loop-holds : tie.Need-loop-holds Inv-loop μ-loop
-loop-holds c = same-none (now (c .before .args .a)) (now (c .before .args .b)) (c .if1 .left)
 
 returns-2 : tie.Need-returns-2 Inv-loop μ-loop
 returns-2 c = same-stop (c .before .before .before .before .loop .inv) (c .before .before .before .loop-test .taken) (c .if2 .taken)
@@ -36,7 +33,7 @@ same-spec =
     Inv-loop
     μ-loop
     returns
-    loop-holds
+    (λ c. search needs)
     (λ c. search needs)
     (λ c. search needs)
     returns-2

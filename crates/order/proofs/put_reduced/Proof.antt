@@ -1,7 +1,7 @@
 -- `put_reduced` meets its contract: what is written so far and what is left of the record, reduced, are the whole; each changed value goes into the part of the buffer that begins there.
 use borrow.Author.Needs.{needs}
-use Prim.Native.Nat.{_+_, _-_}
-use Rattle.order.proofs.LoopLaws.{within, Writing, writing-none, writing-turn, writing-same, writing-room, writing-anew, writing-inside, writing-left, writing-all}
+use Prim.Native.Nat.{_+_, _-_, _≤_}
+use Rattle.order.proofs.LoopLaws.{measuring-value, measuring-within, measuring-room, measuring-all, Writing, writing-none, writing-same, writing-room, writing-anew, writing-all}
 use Rattle.laws.specs.Over.{length-part}
 use native.Mathlib.Omega.{arith}
 use lib.ListN.{length}
@@ -16,88 +16,50 @@ abbrev μ-loop : tie.MeasureT-loop
 μ-loop out₀ rec row at₀ len₀ i₀ out at len i = length row - i
 
 loop-holds : tie.Need-loop-holds Inv-loop μ-loop
-loop-holds c = writing-none (now (c .before .before .before .args .rec)) (now (c .before .before .before .args .row)) (now (c .before .before .before .args .out)) (c .before .before .before .pre .0) (c .before .before .before .pre .1)
-
-add-value : tie.Need-add-value Inv-loop μ-loop
-add-value c = omega (arith, (writing-turn (c .before .before .before .loop .inv) (c .before .before .loop-test .taken)) .three)
-
-mul-value : tie.Need-mul-value Inv-loop μ-loop
-mul-value c = omega (arith, (writing-turn (c .before .before .before .loop .inv) (c .before .before .loop-test .taken)) .three)
-
-shared-slice-read-value : tie.Need-shared-slice-read-value Inv-loop μ-loop
-shared-slice-read-value c = omega (arith, (writing-turn (c .before .before .before .before .loop .inv) (c .before .before .before .loop-test .taken)) .three)
+loop-holds c = search (needs, writing-none)
 
 cast-value : tie.Need-cast-value Inv-loop μ-loop
 cast-value c = omega (arith, c .shared-slice-known4 .given (c .before .before .before .before .loop .i + 1))
 
 nth-argument-requires : tie.Need-nth-argument-requires Inv-loop μ-loop
-nth-argument-requires c κs = (writing-turn (c .before .before .before .before .loop .inv) (c .before .before .before .loop-test .taken)) .whole
-
-sub-put-changed : tie.Need-sub-put-changed Inv-loop μ-loop
-sub-put-changed c = omega (arith, writing-room (c .before .before .before .before .before .loop .inv) (c .before .before .before .before .loop-test .taken) (c .before .before .if1 .taken) (c .nth-argument .ensures))
-
-part-put-changed-start : tie.Need-part-put-changed-start Inv-loop μ-loop
-part-put-changed-start c = omega (arith, writing-room (c .before .before .before .before .before .loop .inv) (c .before .before .before .before .loop-test .taken) (c .before .before .if1 .taken) (c .nth-argument .ensures))
+nth-argument-requires c κs = search (needs, measuring-value)
 
 put-changed-requires : tie.Need-put-changed-requires Inv-loop μ-loop
-put-changed-requires c κs = (within (writing-turn (c .before .before .before .before .before .before .loop .inv) (c .before .before .before .before .before .loop-test .taken)) (c .before .nth-argument .ensures), omega (arith, writing-room (c .before .before .before .before .before .before .loop .inv) (c .before .before .before .before .before .loop-test .taken) (c .before .before .before .if1 .taken) (c .before .nth-argument .ensures), length-part (c .before .before .before .before .before .before .loop .out) (c .before .before .before .before .before .before .loop .len)))
+put-changed-requires c κs = search (needs, measuring-within, writing-room)
+
+-- the turn that an argument was found at
+abbrev turn : tie.After-nth-argument Inv-loop μ-loop → tie.At-loop Inv-loop μ-loop
+turn c = c .before .before .before .before .before
 
 add-len : tie.Need-add-len Inv-loop μ-loop
-add-len c = omega (arith, c .before .before .put-changed .ensures .0, writing-room (c .before .before .before .before .before .before .before .before .before .loop .inv) (c .before .before .before .before .before .before .before .before .loop-test .taken) (c .before .before .before .before .before .before .if1 .taken) (c .before .before .before .before .nth-argument .ensures), c .before .before .before .before .before .before .before .before .before .loop .inv .long)
-
-add-at : tie.Need-add-at Inv-loop μ-loop
-add-at c = omega (arith, (writing-turn (c .before .before .before .before .before .before .before .before .before .loop .inv) (c .before .before .before .before .before .before .before .before .loop-test .taken)) .three)
-
-mul-at : tie.Need-mul-at Inv-loop μ-loop
-mul-at c = omega (arith, (writing-turn (c .before .before .before .before .before .before .before .before .before .loop .inv) (c .before .before .before .before .before .before .before .before .loop-test .taken)) .three)
-
-shared-slice-read-at : tie.Need-shared-slice-read-at Inv-loop μ-loop
-shared-slice-read-at c = omega (arith, (writing-turn (c .before .before .before .before .before .before .before .before .before .before .loop .inv) (c .before .before .before .before .before .before .before .before .before .loop-test .taken)) .three)
+add-len c =
+    let t = turn (c .before .before .before .before) in
+    let room : t .loop .len + c .before .before .put-changed .result ≤ length (now (t .before .before .before .before .args .rec)) = search (needs, measuring-room) in
+    omega arith
 
 cast-at : tie.Need-cast-at Inv-loop μ-loop
-cast-at c = omega (arith, c .shared-slice-known5 .given (c .before .before .before .before .before .before .before .before .before .before .loop .i + 2))
-
-add-i : tie.Need-add-i Inv-loop μ-loop
-add-i c = omega (arith, (writing-turn (c .before .before .before .before .before .before .before .before .before .before .loop .inv) (c .before .before .before .before .before .before .before .before .before .loop-test .taken)) .three)
-
-loop-less : tie.Need-loop-less Inv-loop μ-loop
-loop-less c = omega (arith, (writing-turn (c .before .before .before .before .before .before .before .before .before .before .loop .inv) (c .before .before .before .before .before .before .before .before .before .loop-test .taken)) .three)
+cast-at c = omega (arith, c .shared-slice-known5 .given (turn (c .before .before .before .before .before) .loop .i + 2))
 
 loop-again : tie.Need-loop-again Inv-loop μ-loop
-loop-again c = writing-anew (c .before .before .before .before .before .before .before .before .before .before .loop .inv) (c .before .before .before .before .before .before .before .before .before .loop-test .taken) (c .before .before .before .before .before .before .before .if1 .taken) (c .before .before .before .before .before .nth-argument .ensures) (c .before .before .before .put-changed .ensures .0) (c .before .before .before .put-changed .ensures .1)
-
-add-i-2 : tie.Need-add-i-2 Inv-loop μ-loop
-add-i-2 c = omega (arith, (writing-turn (c .before .before .before .loop .inv) (c .before .before .loop-test .taken)) .three)
-
-loop-less-2 : tie.Need-loop-less-2 Inv-loop μ-loop
-loop-less-2 c = omega (arith, (writing-turn (c .before .before .before .loop .inv) (c .before .before .loop-test .taken)) .three)
+loop-again c = search (needs, writing-anew)
 
 loop-again-2 : tie.Need-loop-again-2 Inv-loop μ-loop
-loop-again-2 c = writing-same (c .before .before .before .loop .inv) (c .before .before .loop-test .taken) (c .if1 .left)
-
-sub-put-bytes : tie.Need-sub-put-bytes Inv-loop μ-loop
-sub-put-bytes c = omega (arith, writing-left (c .before .loop .inv) (c .loop-test .left), c .before .loop .inv .room, c .before .loop .inv .long)
-
-part-put-bytes-start : tie.Need-part-put-bytes-start Inv-loop μ-loop
-part-put-bytes-start c = omega (arith, writing-left (c .before .loop .inv) (c .loop-test .left), c .before .loop .inv .room, c .before .loop .inv .long)
-
-sub-put-bytes-2 : tie.Need-sub-put-bytes-2 Inv-loop μ-loop
-sub-put-bytes-2 c = writing-inside (c .before .before .loop .inv)
-
-part-put-bytes-start-2 : tie.Need-part-put-bytes-start-2 Inv-loop μ-loop
-part-put-bytes-start-2 c = omega (arith, writing-inside (c .before .before .loop .inv))
+loop-again-2 c = search (needs, writing-same)
 
 put-bytes-requires : tie.Need-put-bytes-requires Inv-loop μ-loop
-put-bytes-requires c κs = omega (arith, writing-left (c .before .before .before .loop .inv) (c .before .before .loop-test .left), c .before .before .before .loop .inv .room, c .before .before .before .loop .inv .long, length-part (c .before .before .before .loop .out) (c .before .before .before .loop .len), length-part (now (c .before .before .before .before .before .before .before .args .rec)) (c .before .before .before .loop .at))
+put-bytes-requires c κs =
+    let e = c .before .before in let l = e .before .loop in
+    omega (arith, measuring-all (l .inv .so) (e .loop-test .left), length-part (l .out) (l .len), length-part (now (e .before .before .before .before .before .args .rec)) (l .at))
 
-sub-result : tie.Need-sub-result Inv-loop μ-loop
-sub-result c = writing-inside (c .before .before .before .before .before .before .loop .inv)
+-- the loop's end, before the last copy
+abbrev end : tie.After-slice-known3 Inv-loop μ-loop → tie.After-loop Inv-loop μ-loop
+end c = c .before .before .before .before .before
 
 add-result : tie.Need-add-result Inv-loop μ-loop
-add-result c = omega (arith, writing-left (c .before .before .before .before .before .before .loop .inv) (c .before .before .before .before .before .loop-test .left), c .before .before .before .before .before .before .loop .inv .room, c .before .before .before .before .before .before .loop .inv .long)
+add-result c = omega (arith, measuring-all (end c .before .loop .inv .so) (end c .loop-test .left))
 
 returns : tie.Need-returns Inv-loop μ-loop
-returns c = writing-all (c .before .before .before .before .before .before .loop .inv) (c .before .before .before .before .before .loop-test .left) (c .before .before .put-bytes .ensures)
+returns c = writing-all (end c .before .loop .inv) (end c .loop-test .left) (c .before .before .put-bytes .ensures)
 
 pub put-reduced-spec : {M : Type 1} → statement M
 put-reduced-spec =
@@ -108,35 +70,35 @@ put-reduced-spec =
     loop-holds
     (λ c. search needs)
     (λ c. search needs)
-    add-value
-    mul-value
-    shared-slice-read-value
+    (λ c. search needs)
+    (λ c. search needs)
+    (λ c. search needs)
     cast-value
     (λ c. search needs)
     nth-argument-requires
-    sub-put-changed
-    part-put-changed-start
+    (λ c. search needs)
+    (λ c. search needs)
     (λ c. search needs)
     put-changed-requires
     add-len
-    add-at
-    mul-at
-    shared-slice-read-at
-    cast-at
-    add-i
-    loop-less
-    loop-again
-    add-i-2
-    loop-less-2
-    loop-again-2
-    sub-put-bytes
-    part-put-bytes-start
     (λ c. search needs)
-    sub-put-bytes-2
-    part-put-bytes-start-2
+    (λ c. search needs)
+    (λ c. search needs)
+    cast-at
+    (λ c. search needs)
+    (λ c. search needs)
+    loop-again
+    (λ c. search needs)
+    (λ c. search needs)
+    loop-again-2
+    (λ c. search needs)
+    (λ c. search needs)
+    (λ c. search needs)
+    (λ c. search needs)
+    (λ c. search needs)
     (λ c. search needs)
     put-bytes-requires
-    sub-result
+    (λ c. search needs)
     add-result
     (λ c. search needs)
     returns)

@@ -1,7 +1,8 @@
 -- `argument_len` meets its contract: a range's term is 8 bytes shorter than the range, and any other element is its own argument.
 use borrow.Author.Needs.{needs}
-use Rattle.order_argument.proofs.TermLaws.{range-long, argument-range, argument-whole}
-use mathlib.Core.Path.{sym, ap, _∙_}
+use Rattle.order_argument.proofs.TermLaws.{tested-long, argument-range, argument-whole}
+use mathlib.Core.Path.{sym, ap}
+use Prim.Native.Nat.{_≤_}
 use denote.Ref.{now}
 use lib.ListN.{length}
 use native.Mathlib.Omega.{arith}
@@ -9,13 +10,15 @@ use Rattle.order_argument.proofs.argument_len.Statement.{statement}
 use Rattle.order_argument.proofs.argument_len.Tie as tie
 
 sub-result : tie.Need-sub-result
-sub-result c = omega (arith, range-long (now (c .before .before .before .args .element)) (sym (c .before .is-range .ensures) ∙ c .if1 .taken))
+sub-result c =
+    let long : 20 ≤ length (now (c .before .before .before .args .element)) = search (needs, tested-long) in
+    omega arith
 
 returns : tie.Need-returns
-returns c = λ n. sym (argument-range (now (c .before .before .before .args .element)) n (sym (c .before .is-range .ensures) ∙ c .if1 .taken))
+returns c = λ n. search (needs, argument-range)
 
 returns-2 : tie.Need-returns-2
-returns-2 c = λ n. sym (ap length (argument-whole (now (c .before .before .before .args .element)) n (sym (c .before .is-range .ensures) ∙ c .if1 .left)))
+returns-2 c = λ n. ap length (sym (argument-whole (now (c .before .before .before .args .element)) n (c .before .is-range .ensures) (c .if1 .left)))
 
 pub argument-len-spec : {M : Type 1} → statement M
 argument-len-spec = tie.close (tie.spec (λ c κs. search needs) sub-result returns returns-2)

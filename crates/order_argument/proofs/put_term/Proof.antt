@@ -1,71 +1,71 @@
 -- `put_term` meets its contract: three writers, each lent the buffer from where the one before ended.
 use borrow.Author.Needs.{needs}
-use Rattle.order_argument.proofs.TermLaws.{range-long, lead-long, term-long}
-use Rattle.order_argument.specs.Terms.{termValue, lastUnitAt, termBytes}
-use Rattle.fields.specs.Units.{numeralBytes}
-use Rattle.rules.specs.Records.{field, fieldBytes}
-use Rattle.laws.specs.Over.{back-over, length-part}
-use Prim.Native.Nat.{ℕ, _+_, _-_}
-use mathlib.Core.List.{List, [], _++_}
-use lib.ListN.{length, take, drop, getD, length-take, length-drop, length-append}
-use mathlib.Core.Path.{_≡_}
+use Rattle.order_argument.proofs.TermLaws.{RangeSizes, range-sizes, term-over}
+use Rattle.laws.specs.Over.{length-part}
 use native.Mathlib.Omega.{arith}
+use lib.ListN.{length-take, length-drop}
 use denote.Ref.{now}
 use Rattle.order_argument.proofs.put_term.Statement.{statement}
 use Rattle.order_argument.proofs.put_term.Tie as tie
 
+-- what the function was called with, before its three writers
+abbrev valued : tie.After-put-field → tie.After-term-value
+valued c = c .before .before .before
+
+abbrev first : tie.After-put-bytes → tie.After-put-field
+first c = c .before .before .before .before .before
+
+abbrev second : tie.After-put-numeral → tie.After-put-bytes
+second c = c .before .before .before .before
+
+sizes : (s : tie.Start) → RangeSizes (now (s .args .range)) (s .args .term)
+sizes s = range-sizes (now (s .args .range)) (s .args .term) (s .pre .0)
+
+sizes-then : (c : tie.After-term-value) → let a = c .before .before .before .before .args in RangeSizes (now (a .range)) (a .term)
+sizes-then c = sizes (c .before .before .before .before)
+
 sub-last : tie.Need-sub-last
-sub-last c = omega (arith, range-long (now (c .before .before .args .range)) (c .before .before .pre .0))
+sub-last c = omega (arith, sizes (c .before .before))
 
 shared-slice-read-letter : tie.Need-shared-slice-read-letter
-shared-slice-read-letter c = omega (arith, range-long (now (c .before .before .before .args .range)) (c .before .before .before .pre .0))
+shared-slice-read-letter c = omega (arith, sizes (c .before .before .before))
 
 put-field-requires : tie.Need-put-field-requires
-put-field-requires c κs = omega (arith, range-long (now (c .before .before .before .before .before .before .args .range)) (c .before .before .before .before .before .before .pre .0), term-long (now (c .before .before .before .before .before .before .args .range)) (c .before .before .before .before .before .before .args .term) (c .before .before .before .before .before .before .pre .0), c .before .before .before .before .before .before .pre .2)
+put-field-requires c κs = omega (arith, sizes-then (c .before .before))
 
 sub-put-bytes : tie.Need-sub-put-bytes
-sub-put-bytes c = omega (arith, c .before .before .put-field .ensures .0, range-long (now (c .before .before .before .before .before .before .before .before .before .args .range)) (c .before .before .before .before .before .before .before .before .before .pre .0), term-long (now (c .before .before .before .before .before .before .before .before .before .args .range)) (c .before .before .before .before .before .before .before .before .before .args .term) (c .before .before .before .before .before .before .before .before .before .pre .0), c .before .before .before .before .before .before .before .before .before .pre .2)
+sub-put-bytes c = omega (arith, sizes-then (valued (c .before .before)))
 
 part-put-bytes-start : tie.Need-part-put-bytes-start
-part-put-bytes-start c = omega (arith, c .before .before .put-field .ensures .0, range-long (now (c .before .before .before .before .before .before .before .before .before .args .range)) (c .before .before .before .before .before .before .before .before .before .pre .0), term-long (now (c .before .before .before .before .before .before .before .before .before .args .range)) (c .before .before .before .before .before .before .before .before .before .args .term) (c .before .before .before .before .before .before .before .before .before .pre .0), c .before .before .before .before .before .before .before .before .before .pre .2)
+part-put-bytes-start c = omega (arith, sizes-then (valued (c .before .before)))
 
 sub-put-bytes-2 : tie.Need-sub-put-bytes-2
-sub-put-bytes-2 c = omega (arith, range-long (now (c .before .before .before .before .before .before .before .before .before .before .args .range)) (c .before .before .before .before .before .before .before .before .before .before .pre .0))
+sub-put-bytes-2 c = omega (arith, sizes-then (valued (c .before .before .before)))
 
 part-put-bytes-start-2 : tie.Need-part-put-bytes-start-2
-part-put-bytes-start-2 c = omega (arith, range-long (now (c .before .before .before .before .before .before .before .before .before .before .args .range)) (c .before .before .before .before .before .before .before .before .before .before .pre .0))
+part-put-bytes-start-2 c = omega (arith, sizes-then (valued (c .before .before .before)))
 
 put-bytes-requires : tie.Need-put-bytes-requires
-put-bytes-requires c κs = omega (arith, lead-long (now (c .before .before .before .before .before .before .before .before .before .before .before .args .range)) (c .before .before .before .before .before .before .before .before .before .before .before .pre .0), length-part (c .before .before .before .before .put-field .last .0) (c .before .before .before .before .put-field .result), c .before .before .before .before .put-field .kept, c .before .before .before .before .put-field .ensures .0, range-long (now (c .before .before .before .before .before .before .before .before .before .before .before .args .range)) (c .before .before .before .before .before .before .before .before .before .before .before .pre .0), term-long (now (c .before .before .before .before .before .before .before .before .before .before .before .args .range)) (c .before .before .before .before .before .before .before .before .before .before .before .args .term) (c .before .before .before .before .before .before .before .before .before .before .before .pre .0), c .before .before .before .before .before .before .before .before .before .before .before .pre .2)
+put-bytes-requires c κs =
+    let f = c .before .before .before .before in
+    omega (arith, sizes-then (valued f), length-part (f .put-field .last .0) (f .put-field .result))
 
 sub-unit : tie.Need-sub-unit
-sub-unit c = omega (arith, range-long (now (c .before .before .before .before .before .before .before .before .before .before .before .before .before .before .args .range)) (c .before .before .before .before .before .before .before .before .before .before .before .before .before .before .pre .0))
+sub-unit c = omega (arith, sizes-then (valued (first (c .before .before))))
 
 sub-put-numeral : tie.Need-sub-put-numeral
-sub-put-numeral c = omega (arith, c .before .before .before .before .before .before .before .put-field .ensures .0, range-long (now (c .before .before .before .before .before .before .before .before .before .before .before .before .before .before .args .range)) (c .before .before .before .before .before .before .before .before .before .before .before .before .before .before .pre .0), term-long (now (c .before .before .before .before .before .before .before .before .before .before .before .before .before .before .args .range)) (c .before .before .before .before .before .before .before .before .before .before .before .before .before .before .args .term) (c .before .before .before .before .before .before .before .before .before .before .before .before .before .before .pre .0), c .before .before .before .before .before .before .before .before .before .before .before .before .before .before .pre .2)
+sub-put-numeral c = omega (arith, sizes-then (valued (first (c .before .before))))
 
 part-put-numeral-start : tie.Need-part-put-numeral-start
-part-put-numeral-start c = omega (arith, c .before .before .before .before .before .before .before .put-field .ensures .0, range-long (now (c .before .before .before .before .before .before .before .before .before .before .before .before .before .before .args .range)) (c .before .before .before .before .before .before .before .before .before .before .before .before .before .before .pre .0), term-long (now (c .before .before .before .before .before .before .before .before .before .before .before .before .before .before .args .range)) (c .before .before .before .before .before .before .before .before .before .before .before .before .before .before .args .term) (c .before .before .before .before .before .before .before .before .before .before .before .before .before .before .pre .0), c .before .before .before .before .before .before .before .before .before .before .before .before .before .before .pre .2)
+part-put-numeral-start c = omega (arith, sizes-then (valued (first (c .before .before))))
 
 put-numeral-requires : tie.Need-put-numeral-requires
-put-numeral-requires c κs = simp (length-take, length-drop) (omega (arith, c .before .before .before .before .before .before .before .before .put-field .ensures .0, range-long (now (c .before .before .before .before .before .before .before .before .before .before .before .before .before .before .before .args .range)) (c .before .before .before .before .before .before .before .before .before .before .before .before .before .before .before .pre .0), term-long (now (c .before .before .before .before .before .before .before .before .before .before .before .before .before .before .before .args .range)) (c .before .before .before .before .before .before .before .before .before .before .before .before .before .before .before .args .term) (c .before .before .before .before .before .before .before .before .before .before .before .before .before .before .before .pre .0), c .before .before .before .before .before .before .before .before .before .before .before .before .before .before .before .pre .2))
+put-numeral-requires c κs =
+    let f = valued (first (c .before .before .before)) in
+    simp (length-take, length-drop) (omega (arith, sizes-then f .range, sizes-then f .term))
 
 returns : tie.Need-returns
-unfolding termBytes
-returns c =
-    let c3 = c .before .before in
-    let c2 = c .before .before .before .before .before .before in
-    let c1 = c .before .before .before .before .before .before .before .before .before .before .before in
-    let a = c .before .before .before .before .before .before .before .before .before .before .before .before .before .before .before .before .before .before .args in
-    let x = now (a .range) in
-    let head : List ℕ = fieldBytes (field 5 []) in
-    let lead : List ℕ = take (lastUnitAt x - 11) (drop 11 x) in
-    let last : List ℕ = numeralBytes (getD x (lastUnitAt x + 3) 0) 0 (termValue x (a .term)) in
-    let p : length head ≡ c1 .put-field .result = omega (arith, c1 .put-field .ensures .0) in
-    let q : length (head ++ lead) ≡ c1 .put-field .result + (length x - 9 - 11) = omega (arith, c1 .put-field .ensures .0, length-append head lead, lead-long x (c .before .before .before .before .before .before .before .before .before .before .before .before .before .before .before .before .before .before .pre .0), range-long x (c .before .before .before .before .before .before .before .before .before .before .before .before .before .before .before .before .before .before .pre .0)) in (
-      omega (arith, c1 .put-field .ensures .0, range-long x (c .before .before .before .before .before .before .before .before .before .before .before .before .before .before .before .before .before .before .pre .0), term-long x (a .term) (c .before .before .before .before .before .before .before .before .before .before .before .before .before .before .before .before .before .before .pre .0)),
-      back-over (head ++ lead) last (now (a .out)) (back-over head lead (now (a .out)) (c1 .put-field .ensures .1) p (c2 .put-bytes .ensures)) q (rw (c .before .before .before .before .before .before .before .before .before .before .before .before .before .before .term-value .ensures) at (c3 .put-numeral .ensures)),
-    )
+returns c = (omega (arith, sizes-then (valued (first (second (c .before .before))))), search (needs, term-over))
 
 pub put-term-spec : {M : Type 1} → statement M
 put-term-spec =

@@ -1,4 +1,4 @@
--- `any_bound` meets its contract: the comparison decides the test.
+-- The comparison decides which of the two bounds it is.
 use Rattle.print_bound.specs.Bounds.{anyBound}
 use borrow.Author.Tests.{lt-ltb, le-ltb}
 use borrow.Author.Needs.{needs}

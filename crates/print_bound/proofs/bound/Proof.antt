@@ -1,10 +1,10 @@
--- `bound` meets its contract: what is paid and what the fields left pay is enough for the text, and at the end no field is left.
-use Rattle.print_bound.proofs.BoundLaws.{Bounding, bounding, turn, finished, number-few, numeral-room, numeral-turn, single-turn, place-room, place-turn, other-few, other-room, other-turn}
-use native.Mathlib.Omega.{arith}
-use Prim.Native.Nat.{_+_, _-_}
-use lib.ListN.{length, getD}
-use denote.Ref.{now}
+-- What is paid and what the fields left pay is enough for the text, and at the end no field is left.
+use Prim.Native.Nat.{_-_}
 use borrow.Author.Needs.{needs}
+use denote.Ref.{now}
+use lib.ListN.{length}
+use native.Mathlib.Omega.{arith}
+use Rattle.print_bound.proofs.BoundLaws.{Bounding, bounding, finished, numeral-fraction, numeral-letter, numeral-turn, numeral-value, other-sum, other-turn, place-turn, single-turn, stands-there}
 use Rattle.print_bound.proofs.bound.Statement.{statement}
 use Rattle.print_bound.proofs.bound.Tie as tie
 
@@ -15,76 +15,57 @@ abbrev μ-loop : tie.MeasureT-loop
 μ-loop rec at₀ sum₀ base₀ at sum base = length rec - at
 
 loop-holds : tie.Need-loop-holds Inv-loop μ-loop
-loop-holds c = bounding (now (c .before .args .rec)) (c .before .pre)
+loop-holds c = bounding (now (c .before .args .rec)) (c .before .pre) (λ i. omega (arith, c .shared-slice-known .given i))
+
+-- a numeral's field
 
 shared-slice-read-number-bound : tie.Need-shared-slice-read-number-bound Inv-loop μ-loop
-shared-slice-read-number-bound c = omega (arith, numeral-room (turn (c .before .before .before .before .loop .inv) (c .before .before .before .loop-test .taken)) (c .before .if1 .taken))
+shared-slice-read-number-bound c = search (needs, numeral-letter)
 
 shared-slice-read-number-bound-2 : tie.Need-shared-slice-read-number-bound-2 Inv-loop μ-loop
-shared-slice-read-number-bound-2 c = omega (arith, numeral-room (turn (c .before .before .before .before .before .loop .inv) (c .before .before .before .before .loop-test .taken)) (c .before .before .if1 .taken))
+shared-slice-read-number-bound-2 c = search (needs, numeral-fraction)
 
 number-at-requires : tie.Need-number-at-requires Inv-loop μ-loop
-number-at-requires c κs = omega (arith, numeral-room (turn (c .before .before .before .before .before .loop .inv) (c .before .before .before .before .loop-test .taken)) (c .before .before .if1 .taken))
-
-add-sum : tie.Need-add-sum Inv-loop μ-loop
-add-sum c = omega (arith, c .before .before .before .before .before .before .before .loop .inv .small, c .before .before .before .before .before .before .before .loop .inv .few, c .before .before .before .before .before .before .loop-test .taken, c .number-bound .ensures, number-few (c .before .before .before .before .before .before .before .loop .base) (getD (now (c .before .before .before .before .before .before .before .before .before .args .rec)) (c .before .before .before .before .before .before .before .loop .at + 3) 0) (getD (now (c .before .before .before .before .before .before .before .before .before .args .rec)) (c .before .before .before .before .before .before .before .loop .at + 4) 0) (c .before .number-at .result), c .before .before .before .before .before .before .before .before .shared-slice-known .given (c .before .before .before .before .before .before .before .loop .at + 4))
-
-add-at : tie.Need-add-at Inv-loop μ-loop
-add-at c = omega (arith, c .before .before .before .before .before .before .before .loop .inv .few, c .before .before .before .before .before .before .loop-test .taken)
-
-loop-less : tie.Need-loop-less Inv-loop μ-loop
-loop-less c = omega (arith, c .before .before .before .before .before .before .loop-test .taken)
+number-at-requires c κs = search (needs, numeral-value)
 
 loop-again : tie.Need-loop-again Inv-loop μ-loop
-loop-again c = numeral-turn (turn (c .before .before .before .before .before .before .before .loop .inv) (c .before .before .before .before .before .before .loop-test .taken)) (c .before .before .before .before .if1 .taken) (omega (arith, c .before .before .before .before .before .before .before .before .shared-slice-known .given (c .before .before .before .before .before .before .before .loop .at + 4))) (c .before .number-at .ensures) (c .number-bound .ensures)
+loop-again c = search (needs, numeral-turn)
 
-add-at-2 : tie.Need-add-at-2 Inv-loop μ-loop
-add-at-2 c = omega (arith, c .before .before .before .before .loop .inv .few, c .before .before .before .loop-test .taken)
+add-sum : tie.Need-add-sum Inv-loop μ-loop
+add-sum c = omega (arith, loop-again c)
 
-loop-less-2 : tie.Need-loop-less-2 Inv-loop μ-loop
-loop-less-2 c = omega (arith, c .before .before .before .loop-test .taken)
+-- a single element's
 
 loop-again-2 : tie.Need-loop-again-2 Inv-loop μ-loop
-loop-again-2 c = single-turn (turn (c .before .before .before .before .loop .inv) (c .before .before .before .loop-test .taken)) (c .if2 .taken)
+loop-again-2 c = search (needs, single-turn)
 
-add-sum-2 : tie.Need-add-sum-2 Inv-loop μ-loop
-add-sum-2 c = omega (arith, c .before .before .before .before .before .loop .inv .small, c .before .before .before .before .before .loop .inv .few, c .before .before .before .before .loop-test .taken)
-
-add-base : tie.Need-add-base Inv-loop μ-loop
-add-base c = omega (arith, c .before .before .before .before .before .loop .inv .few, c .before .before .before .before .loop-test .taken)
-
-shared-slice-read-base : tie.Need-shared-slice-read-base Inv-loop μ-loop
-shared-slice-read-base c = omega (arith, place-room (turn (c .before .before .before .before .before .before .loop .inv) (c .before .before .before .before .before .loop-test .taken)) (c .before .if3 .taken))
-
-add-at-3 : tie.Need-add-at-3 Inv-loop μ-loop
-add-at-3 c = omega (arith, c .before .before .before .before .before .before .loop .inv .few, c .before .before .before .before .before .loop-test .taken)
-
-loop-less-3 : tie.Need-loop-less-3 Inv-loop μ-loop
-loop-less-3 c = omega (arith, c .before .before .before .before .before .loop-test .taken)
+-- a place's
 
 loop-again-3 : tie.Need-loop-again-3 Inv-loop μ-loop
-loop-again-3 c = place-turn (turn (c .before .before .before .before .before .before .loop .inv) (c .before .before .before .before .before .loop-test .taken)) (c .before .if3 .taken)
+loop-again-3 c = search (needs, place-turn)
+
+shared-slice-read-base : tie.Need-shared-slice-read-base Inv-loop μ-loop
+shared-slice-read-base c = omega (arith, loop-again-3 c)
+
+-- any other
 
 other-bound-requires : tie.Need-other-bound-requires Inv-loop μ-loop
-other-bound-requires c κs = (turn (c .before .before .before .before .before .loop .inv) (c .before .before .before .before .loop-test .taken)) .here
+other-bound-requires c κs = search (needs, stands-there)
 
 add-sum-3 : tie.Need-add-sum-3 Inv-loop μ-loop
-add-sum-3 c = omega (arith, c .before .before .before .before .before .before .loop .inv .small, c .before .before .before .before .before .before .loop .inv .few, c .before .before .before .before .before .loop-test .taken, c .other-bound .ensures, other-few (now (c .before .before .before .before .before .before .before .before .args .rec)) (c .before .before .before .before .before .before .loop .at), other-room (turn (c .before .before .before .before .before .before .loop .inv) (c .before .before .before .before .before .loop-test .taken)))
+add-sum-3 c = search (needs, other-sum)
 
 size-at-requires : tie.Need-size-at-requires Inv-loop μ-loop
-size-at-requires c κs = (turn (c .before .before .before .before .before .before .loop .inv) (c .before .before .before .before .before .loop-test .taken)) .here
-
-add-at-4 : tie.Need-add-at-4 Inv-loop μ-loop
-add-at-4 c = omega (arith, c .before .before .before .before .before .before .before .loop .inv .few, c .size-at .ensures, other-room (turn (c .before .before .before .before .before .before .before .loop .inv) (c .before .before .before .before .before .before .loop-test .taken)))
-
-loop-less-4 : tie.Need-loop-less-4 Inv-loop μ-loop
-loop-less-4 c = omega (arith, c .before .before .before .before .before .before .loop-test .taken, c .size-at .ensures)
+size-at-requires c κs = search (needs, stands-there)
 
 loop-again-4 : tie.Need-loop-again-4 Inv-loop μ-loop
-loop-again-4 c = other-turn (turn (c .before .before .before .before .before .before .before .loop .inv) (c .before .before .before .before .before .before .loop-test .taken)) (c .before .before .before .before .if1 .left) (c .before .before .before .if2 .left) (c .before .before .if3 .left) (c .before .other-bound .ensures) (c .size-at .ensures)
+loop-again-4 c = search (needs, other-turn)
+
+add-at-4 : tie.Need-add-at-4 Inv-loop μ-loop
+add-at-4 c = omega (arith, loop-again-4 c)
 
 returns : tie.Need-returns Inv-loop μ-loop
-returns c = finished (c .before .loop .inv) (c .loop-test .left)
+returns c = search (needs, finished)
 
 pub bound-spec : {M : Type 1} → statement M
 bound-spec =
@@ -102,22 +83,22 @@ bound-spec =
     number-at-requires
     (λ c κs. search needs)
     add-sum
-    add-at
-    loop-less
+    (λ c. search needs)
+    (λ c. search needs)
     loop-again
-    add-at-2
-    loop-less-2
+    (λ c. search needs)
+    (λ c. search needs)
     loop-again-2
-    add-sum-2
-    add-base
+    (λ c. search needs)
+    (λ c. search needs)
     shared-slice-read-base
-    add-at-3
-    loop-less-3
+    (λ c. search needs)
+    (λ c. search needs)
     loop-again-3
     other-bound-requires
     add-sum-3
     size-at-requires
     add-at-4
-    loop-less-4
+    (λ c. search needs)
     loop-again-4
     returns)

@@ -1,4 +1,4 @@
--- `end_bound` meets its contract: the comparison decides the test.
+-- The comparison decides which of the two bounds it is.
 use Rattle.print_bound.specs.Bounds.{endBound}
 use borrow.Author.Tests.{lt-ltb, le-ltb}
 use Rattle.print_bound.proofs.end_bound.Statement.{statement}

@@ -1,4 +1,4 @@
--- `is_plain` meets its contract: each of the two comparisons decides its half of the test.
+-- Each of the two comparisons decides its half of the test.
 use borrow.Author.Tests.{eq-eqb, ne-eqb}
 use Rattle.print_bound.proofs.is_plain.Statement.{statement}
 use Rattle.print_bound.proofs.is_plain.Tie as tie

@@ -1,4 +1,4 @@
--- `longer_bound` meets its contract: the comparison decides the test.
+-- The comparison decides which of the two bounds it is, and the stop is added to either.
 use Rattle.print_bound.specs.Bounds.{longerBound}
 use borrow.Author.Tests.{lt-ltb, le-ltb}
 use borrow.Author.Needs.{needs}

@@ -1,4 +1,4 @@
--- `number_bound` meets its contract: the tests decide which of the three bounds it is.
+-- The tests decide which of the three bounds it is.
 use Rattle.print_bound.specs.Bounds.{decimalBound, numberBound}
 use borrow.Author.Tests.{lt-ltb, le-ltb}
 use borrow.Author.Needs.{needs}

@@ -1,4 +1,4 @@
--- `size_at` meets its contract: the length's high byte is 0, since the content has less than 256 bytes.
+-- The length's high byte is 0, since the content has less than 256 bytes.
 use Prim.Native.Nat.{_+_}
 use Rattle.print_bound.proofs.BoundLaws.{head-room, size-is}
 use native.Mathlib.Omega.{arith}
@@ -16,7 +16,7 @@ add-result-2 : tie.Need-add-result-2
 add-result-2 c = omega (arith, c .shared-slice-known .given (c .before .args .at + 2))
 
 returns : tie.Need-returns
-returns c = size-is (c .before .pre)
+returns c = search (needs, size-is)
 
 pub size-at-spec : {M : Type 1} → statement M
 size-at-spec =

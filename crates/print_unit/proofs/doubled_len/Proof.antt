@@ -1,9 +1,8 @@
 -- What is counted and what the rest will give are the whole length.
 use borrow.Author.Needs.{needs}
-use native.Mathlib.Omega.{arith}
 use Prim.Native.Nat.{_-_}
 use lib.ListN.{length}
-use Rattle.print_unit.proofs.StringLaws.{Counted, counted-none, counted-mark, counted-plain, counted-all}
+use Rattle.print_unit.proofs.StringLaws.{Counted, counted-mark, counted-plain, counted-all}
 use Rattle.print_unit.proofs.doubled_len.Statement.{statement}
 use Rattle.print_unit.proofs.doubled_len.Tie as tie
 
@@ -12,12 +11,6 @@ Inv-loop content i₀ count₀ i count = Counted content i count
 
 abbrev μ-loop : tie.MeasureT-loop
 μ-loop content i₀ count₀ i count = length content - i
-
-loop-holds : tie.Need-loop-holds Inv-loop μ-loop
-loop-holds c = search (needs, counted-none)
-
-add-count : tie.Need-add-count Inv-loop μ-loop
-add-count c = omega (arith, c .before .before .before .loop .inv .few)
 
 loop-again : tie.Need-loop-again Inv-loop μ-loop
 loop-again c = search (needs, counted-mark)
@@ -34,9 +27,9 @@ doubled-len-spec =
     (tie.spec
     Inv-loop
     μ-loop
-    loop-holds
     (λ c. search needs)
-    add-count
+    (λ c. search needs)
+    (λ c. search needs)
     (λ c. search needs)
     (λ c. search needs)
     loop-again

@@ -6,10 +6,10 @@ use Rattle.print_unit.proofs.numeral_text_len.Statement.{statement}
 use Rattle.print_unit.proofs.numeral_text_len.Tie as tie
 
 add-result : tie.Need-add-result
-add-result c = let a = c .before .before .args in omega (arith, prefix-most (a .base) (a .letter), number-most (a .letter) (a .fraction) (a .value), c .number-len .ensures, c .before .prefix-len .ensures)
+add-result c = let a = c .before .before .args in omega (arith, prefix-most (a .base) (a .letter), number-most (a .letter) (a .fraction) (a .value))
 
 returns : tie.Need-returns
-returns c = let a = c .before .before .args in omega (arith, numeral-len (a .base) (a .letter) (a .fraction) (a .value), c .number-len .ensures, c .before .prefix-len .ensures)
+returns c = let a = c .before .before .args in omega (arith, numeral-len (a .base) (a .letter) (a .fraction) (a .value))
 
 pub numeral-text-len-spec : {M : Type 1} → statement M
 numeral-text-len-spec =

@@ -1,38 +1,37 @@
 -- Prefix and number are written one behind the other.
 use borrow.Author.Needs.{needs}
+use Prim.Native.Nat.{_+_, _≤_}
 use denote.Ref.{now}
-use Rattle.laws.specs.Over.{back-over}
-use Rattle.print_unit.specs.Texts.{prefixOf, numberText, numeralText}
-use Rattle.print_unit.proofs.TextLaws.{numeral-len}
-use mathlib.Core.Path.{sym}
+use lib.ListN.{length}
 use native.Mathlib.Omega.{arith}
+use Rattle.print_unit.proofs.ChainLaws.{both-put}
+use Rattle.print_unit.proofs.TextLaws.{numeral-len, prefix-room}
+use Rattle.print_unit.specs.Texts.{numberText, numeralText, prefixOf}
 use Rattle.print_unit.proofs.put_numeral_text.Statement.{statement}
 use Rattle.print_unit.proofs.put_numeral_text.Tie as tie
 
 put-prefix-requires : tie.Need-put-prefix-requires
-put-prefix-requires c κs = let a = c .before .before .args in omega (arith, numeral-len (a .base) (a .letter) (a .fraction) (a .value), c .before .before .pre .1)
+put-prefix-requires c κs = search (needs, prefix-room)
+
+-- there is room for the number too
+room : (c : tie.After-put-prefix) → let a = c .before .before .before .args in
+    c .put-prefix .result + length (numberText (a .letter) (a .fraction) (a .value)) ≤ length (now (a .out))
+room c = let a = c .before .before .before .args in omega (arith, numeral-len (a .base) (a .letter) (a .fraction) (a .value))
 
 sub-put-number : tie.Need-sub-put-number
-sub-put-number c = let a = c .before .before .before .before .before .args in omega (arith, numeral-len (a .base) (a .letter) (a .fraction) (a .value), c .before .before .before .before .before .pre .1)
-
-part-put-number-start : tie.Need-part-put-number-start
-part-put-number-start c = let a = c .before .before .before .before .before .args in omega (arith, numeral-len (a .base) (a .letter) (a .fraction) (a .value), c .before .before .before .before .before .pre .1)
+sub-put-number c = omega (arith, room (c .before .before))
 
 put-number-requires : tie.Need-put-number-requires
-put-number-requires c κs = let a = c .before .before .before .before .before .before .args in (omega arith, search (needs, numeral-len (a .base) (a .letter) (a .fraction) (a .value)))
+put-number-requires c κs = search (needs, room (c .before .before .before))
 
 add-result : tie.Need-add-result
-add-result c = let a = c .before .before .before .before .before .before .before .before .before .args in omega (arith, numeral-len (a .base) (a .letter) (a .fraction) (a .value), c .before .before .before .before .before .before .before .before .before .pre .1, c .before .before .put-number .ensures .0, c .before .before .before .before .before .before .put-prefix .ensures .0)
+add-result c = let d = c .before .before in omega (arith, room (d .before .before .before .before))
 
 returns : tie.Need-returns
 unfolding numeralText
 returns c =
-    let c2 = c .before .before in
-    let c1 = c2 .before .before .before .before in
-    let a = c1 .before .before .before .args in (
-      omega (arith, numeral-len (a .base) (a .letter) (a .fraction) (a .value), c2 .put-number .ensures .0, c1 .put-prefix .ensures .0),
-      back-over (prefixOf (a .base) (a .letter)) (numberText (a .letter) (a .fraction) (a .value)) (now (a .out)) (c1 .put-prefix .ensures .1) (sym (c1 .put-prefix .ensures .0)) (c2 .put-number .ensures .1),
-    )
+    let d = c .before .before in let p = d .before .before .before .before in let a = p .before .before .before .args in
+    both-put (prefixOf (a .base) (a .letter)) (numberText (a .letter) (a .fraction) (a .value)) (now (a .out)) (p .put-prefix .ensures) (d .put-number .ensures)
 
 pub put-numeral-text-spec : {M : Type 1} → statement M
 put-numeral-text-spec =
@@ -40,7 +39,7 @@ put-numeral-text-spec =
     (tie.spec
     put-prefix-requires
     sub-put-number
-    part-put-number-start
+    sub-put-number
     (λ c. search needs)
     put-number-requires
     add-result

@@ -1,27 +1,34 @@
 -- Two stores from the start on are the prefix; with no prefix nothing is stored.
 use borrow.Author.Needs.{needs}
-use Rattle.rules.specs.Characters.{byte}
+use borrow.Author.Tests.{eq-eqb, ne-eqb}
+use denote.Ref.{now}
+use lib.ListN.{length-set}
 use lib.Seq.{sets-eq}
 use mathlib.Core.List.{[], _∷_}
-use lib.ListN.{length, length-set}
-use denote.Ref.{now}
-use Rattle.print_unit.proofs.TextLaws.{prefix-none, prefix-some}
-use mathlib.Core.Path.{refl, ap}
+use mathlib.Core.Path.{refl}
 use native.Mathlib.Omega.{arith}
+use Rattle.rules.specs.Characters.{byte}
+use Rattle.print_unit.specs.Texts.{prefixOf}
 use Rattle.print_unit.proofs.put_prefix.Statement.{statement}
 use Rattle.print_unit.proofs.put_prefix.Tie as tie
 
 returns : tie.Need-returns
-returns c = let a = c .before .args in rw (prefix-none (a .base) (a .letter) (c .if1 .taken)) (refl, refl)
+unfolding prefixOf
+returns c = rw (eq-eqb _ _ (c .if1 .taken)) (refl, refl)
 
 slice-write-out : tie.Need-slice-write-out
-slice-write-out c = let a = c .before .args in omega (arith, ap length (prefix-some (a .base) (a .letter) (c .if1 .left)))
+unfolding prefixOf
+slice-write-out c = let h = rw (ne-eqb _ _ (c .if1 .left)) at (c .before .pre) in omega arith
 
 slice-write-out-2 : tie.Need-slice-write-out-2
-slice-write-out-2 c = let a = c .before .args in simp length-set (omega (arith, ap length (prefix-some (a .base) (a .letter) (c .if1 .left))))
+unfolding prefixOf
+slice-write-out-2 c = simp length-set (rw (ne-eqb _ _ (c .if1 .left)) at (c .before .pre))
 
 returns-2 : tie.Need-returns-2
-returns-2 c = let a = c .before .args in rw (prefix-some (a .base) (a .letter) (c .if1 .left)) (refl, sets-eq (a .letter ∷ byte "'" ∷ []) (now (a .out)) 0 (omega (arith, ap length (prefix-some (a .base) (a .letter) (c .if1 .left)))))
+unfolding prefixOf
+returns-2 c =
+    let a = c .before .args in let n = ne-eqb _ _ (c .if1 .left) in
+    rw n (refl, sets-eq (a .letter ∷ byte "'" ∷ []) (now (a .out)) 0 (rw n at (c .before .pre)))
 
 pub put-prefix-spec : {M : Type 1} → statement M
 put-prefix-spec =

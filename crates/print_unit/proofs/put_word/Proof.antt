@@ -1,48 +1,34 @@
--- Each kind of word has its writer.
+-- The tag tells the kind of word, and each kind has its writer.
 use borrow.Author.Needs.{needs}
-use denote.Ref.{now}
-use lib.ListN.{length}
-use mathlib.Core.Path.{ap, refl}
-use native.Mathlib.Omega.{arith}
-use Rattle.print_unit.proofs.UnitLaws.{as-keyed, as-name, as-string}
+use borrow.Author.Tests.{eq-eqb, ne-eqb}
+use mathlib.Core.Path.{refl}
+use Rattle.print_unit.specs.Units.{wordText}
 use Rattle.print_unit.proofs.put_word.Statement.{statement}
 use Rattle.print_unit.proofs.put_word.Tie as tie
 
 put-string-requires : tie.Need-put-string-requires
-put-string-requires c κs =
-    let a = c .before .before .before .before .args in
-    let w = now (a .content) in
-    omega (arith, ap length (as-string (a .base) (a .tag) w (c .before .if1 .taken)), c .before .before .before .before .pre)
+unfolding wordText
+put-string-requires c κs = rw (eq-eqb _ _ (c .before .if1 .taken)) at (c .before .before .before .before .pre)
 
 returns : tie.Need-returns
-returns c =
-    let a = c .before .before .before .before .before .before .before .args in
-    let w = now (a .content) in
-    rw (as-string (a .base) (a .tag) w (c .before .before .before .before .if1 .taken)) (c .before .before .put-string .ensures)
+unfolding wordText
+returns c = rw (eq-eqb _ _ (c .before .before .before .before .if1 .taken)) (c .before .before .put-string .ensures)
 
 put-keyed-text-requires : tie.Need-put-keyed-text-requires
-put-keyed-text-requires c κs =
-    let a = c .before .before .before .before .before .args in
-    let w = now (a .content) in
-    omega (arith, ap length (as-keyed (a .base) (a .tag) w (c .before .before .if1 .left) (c .before .if2 .taken)), c .before .before .before .before .before .pre)
+unfolding wordText
+put-keyed-text-requires c κs = let t = c .before in rw (ne-eqb _ _ (t .before .if1 .left), eq-eqb _ _ (t .if2 .taken)) at (t .before .before .before .before .pre)
 
 returns-2 : tie.Need-returns-2
-returns-2 c =
-    let a = c .before .before .before .before .before .before .before .before .args in
-    let w = now (a .content) in
-    rw (as-keyed (a .base) (a .tag) w (c .before .before .before .before .before .if1 .left) (c .before .before .before .before .if2 .taken)) (c .before .before .put-keyed-text .ensures)
+unfolding wordText
+returns-2 c = let t = c .before .before .before .before in rw (ne-eqb _ _ (t .before .if1 .left), eq-eqb _ _ (t .if2 .taken)) (c .before .before .put-keyed-text .ensures)
 
 put-bytes-requires : tie.Need-put-bytes-requires
-put-bytes-requires c κs =
-    let a = c .before .before .before .before .before .args in
-    let w = now (a .content) in
-    omega (arith, ap length (as-name (a .base) (a .tag) w (c .before .before .if1 .left) (c .before .if2 .left)), c .before .before .before .before .before .pre)
+unfolding wordText
+put-bytes-requires c κs = let t = c .before in rw (ne-eqb _ _ (t .before .if1 .left), ne-eqb _ _ (t .if2 .left)) at (t .before .before .before .before .pre)
 
 returns-3 : tie.Need-returns-3
-returns-3 c =
-    let a = c .before .before .before .before .before .before .before .before .args in
-    let w = now (a .content) in
-    rw (as-name (a .base) (a .tag) w (c .before .before .before .before .before .if1 .left) (c .before .before .before .before .if2 .left)) (refl, c .before .before .put-bytes .ensures)
+unfolding wordText
+returns-3 c = let t = c .before .before .before .before in rw (ne-eqb _ _ (t .before .if1 .left), ne-eqb _ _ (t .if2 .left)) (refl, c .before .before .put-bytes .ensures)
 
 pub put-word-spec : {M : Type 1} → statement M
 put-word-spec =

@@ -1,11 +1,8 @@
--- Byte by byte, as long as they are the same.
+-- The bytes are compared one by one, as long as they are the same.
 use Prim.Native.Nat.{_-_}
 use borrow.Author.Needs.{needs}
-use denote.Ref.{now}
 use lib.ListN.{length}
 use mathlib.Core.Path.{_≡_}
-use native.Mathlib.Omega.{arith}
-use Rattle.laws.specs.Over.{part}
 use Rattle.print_value.proofs.BeginLaws.{alike-end, alike-more, alike-stop}
 use Rattle.print_value.specs.Begins.{beginsAt}
 use Rattle.print_value.proofs.alike.Statement.{statement}
@@ -17,17 +14,14 @@ Inv-loop part lead from i₀ i = beginsAt part lead from ≡ beginsAt part lead 
 abbrev μ-loop : tie.MeasureT-loop
 μ-loop part lead from i₀ i = length lead - i
 
-shared-slice-read-if1 : tie.Need-shared-slice-read-if1 Inv-loop μ-loop
-shared-slice-read-if1 c = omega (arith, c .before .before .before .pre, c .before .loop-test .taken)
-
 returns : tie.Need-returns Inv-loop μ-loop
-returns c = alike-stop (now (c .before .before .before .before .before .args .part)) (now (c .before .before .before .before .before .args .lead)) (c .before .before .before .before .loop .i) (c .before .before .before .before .loop .inv) (c .before .before .before .loop-test .taken) (c .before .before .before .before .before .pre) (c .if1 .taken)
+returns c = search (needs, alike-stop)
 
 loop-again : tie.Need-loop-again Inv-loop μ-loop
-loop-again c = alike-more (now (c .before .before .before .before .before .args .part)) (now (c .before .before .before .before .before .args .lead)) (c .before .before .before .before .loop .i) (c .before .before .before .before .loop .inv) (c .before .before .before .loop-test .taken) (c .before .before .before .before .before .pre) (c .if1 .left)
+loop-again c = search (needs, alike-more)
 
 returns-2 : tie.Need-returns-2 Inv-loop μ-loop
-returns-2 c = alike-end (now (c .before .before .args .part)) (now (c .before .before .args .lead)) (c .before .loop .i) (c .before .loop .inv) (c .loop-test .left)
+returns-2 c = search (needs, alike-end)
 
 pub alike-spec : {M : Type 1} → statement M
 alike-spec =
@@ -36,7 +30,7 @@ alike-spec =
     Inv-loop
     μ-loop
     (λ c. search needs)
-    shared-slice-read-if1
+    (λ c. search needs)
     (λ c. search needs)
     returns
     (λ c. search needs)

@@ -1,114 +1,54 @@
 -- The lengths of what stands before, the printed units and the end of a range add up.
-use Prim.Native.Nat.{_+_, ℕ}
+use Prim.Native.Nat.{_+_}
 use borrow.Author.Needs.{needs}
 use denote.Ref.{now}
-use lib.ListN.{length, length-append}
-use mathlib.Core.List.{List, _++_}
-use mathlib.Core.Path.{_∙_, _≡_, ap, refl}
 use native.Mathlib.Omega.{arith}
-use Rattle.print_value.proofs.ElementLaws.{head-inside, head-is, own-inside, printed, stood-low, tailText}
-use Rattle.print_value.proofs.EndLaws.{joint-size}
-use Rattle.print_value.proofs.TailLaws.{end-is}
-use Rattle.print_value.specs.Values.{elementText, headSize, jointText, unitsText}
+use Rattle.print_value.proofs.ElementLaws.{own-inside}
+use Rattle.print_value.proofs.TailLaws.{EndFits, element-measured, end-fits, joint-asks, measured, units-fit}
+use Rattle.print_value.specs.Values.{mostLength}
 use Rattle.print_value.proofs.element_len.Statement.{statement}
 use Rattle.print_value.proofs.element_len.Tie as tie
 
+abbrev start : tie.After-head-len → tie.Start
+start c = c .before .before .before
+
 shared-slice-read-head-len : tie.Need-shared-slice-read-head-len
-shared-slice-read-head-len c = let f = c .before .before .pre in own-inside (f .has)
+shared-slice-read-head-len c = search (needs, own-inside)
 
 add-first : tie.Need-add-first
-add-first c =
-    let f = c .before .before .before .pre in
-    let a = c .before .before .before .args in
-    let q : a .at + c .head-len .result ≡ a .at + headSize (f .e) = ap (λ (n : ℕ). a .at + n) (c .head-len .ensures ∙ head-is (f .has) refl) in
-    omega (arith, q, head-inside (f .has))
+add-first c = omega (arith, joint-asks (start c .pre) (c .head-len .ensures))
 
 joint-len-requires : tie.Need-joint-len-requires
-joint-len-requires c κs =
-    let f = c .before .before .before .pre in
-    let a = c .before .before .before .args in
-    let rec′ = now (a .rec) in
-    let q : a .at + c .head-len .result ≡ a .at + headSize (f .e) = ap (λ (n : ℕ). a .at + n) (c .head-len .ensures ∙ head-is (f .has) refl) in
-    let w = stood-low rec′ (a .from) (a .at) (a .lead) (a .until) (f .before) (f .e) (f .stood) in
-    (omega (arith, q, head-inside (f .has)), w .0, w .1)
+joint-len-requires c κs = joint-asks (start c .pre) (c .head-len .ensures)
 
 printed-from-requires : tie.Need-printed-from-requires
 printed-from-requires c κs =
-    let f = c .before .before .before .before .pre in
-    let a = c .before .before .before .before .args in
-    let rec′ = now (a .rec) in
-    let q : a .at + c .before .head-len .result ≡ a .at + headSize (f .e) = ap (λ (n : ℕ). a .at + n) (c .before .head-len .ensures ∙ head-is (f .has) refl) in
-    let w = stood-low rec′ (a .from) (a .at) (a .lead) (a .until) (f .before) (f .e) (f .stood) in
-    (w .0, omega (arith, q, head-inside (f .has), w .1, c .before .before .before .before .good .0 .0))
+    let w = joint-asks (start (c .before) .pre) (c .before .head-len .ensures) in
+    (w .1, omega (arith, start (c .before) .good .0 .0))
 
 units-len-requires : tie.Need-units-len-requires
-units-len-requires c κs =
-    let f = c .before .before .before .before .before .pre in
-    let a = c .before .before .before .before .before .args in
-    let q : a .at + c .before .before .head-len .result ≡ a .at + headSize (f .e) = ap (λ (n : ℕ). a .at + n) (c .before .before .head-len .ensures ∙ head-is (f .has) refl) in
-    let x = printed (f .has) (a .from) (a .lead) (a .until) (f .before) (f .stood) q (c .before .joint-len .ensures) (c .printed-from .ensures) in
-    let J : List ℕ = jointText (c .before .joint-len .result) ++ unitsText (f .b) (x .i) (x .l) in
-    let T : List ℕ = tailText (f .b) (f .e) in
-    let n = joint-size (c .before .joint-len .result) (x .few) in
-    let long : length (elementText (f .b) (f .before) (f .e)) ≡ length J + length T = ap length (x .is) ∙ length-append J T in
-    let lj : length J ≡ c .before .joint-len .result + length (unitsText (f .b) (x .i) (x .l)) = length-append (jointText (c .before .joint-len .result)) (unitsText (f .b) (x .i) (x .l)) ∙ rw n in
-    record { b = f .b; i = x .i; l = x .l; rest = f .rest; has = x .has; fits = omega (arith, f .fits, long, lj) }
+units-len-requires c κs = search (needs, units-fit)
+
+-- the end stands, and its length is not too much
+ends : (c : tie.After-units-len) →
+    let h = c .before .before .before in let a = start h .args in let n = c .before .before .joint-len .result in let r = c .units-len .result in
+    EndFits (now (a .rec)) (a .at) (a .at + h .head-len .result) (a .base) mostLength (record { bytes = n + r .bytes; last = r .last; next = r .next })
+ends c =
+    let h = c .before .before .before in
+    end-fits (start h .pre) (h .head-len .ensures) (c .before .before .joint-len .ensures) (c .before .printed-from .ensures)
+    (measured _ _ _ _ _ (c .units-len .ensures))
 
 end-len-requires : tie.Need-end-len-requires
-end-len-requires c κs =
-    let f = c .before .before .before .before .before .before .pre in
-    let a = c .before .before .before .before .before .before .args in
-    let q : a .at + c .before .before .before .head-len .result ≡ a .at + headSize (f .e) = ap (λ (n : ℕ). a .at + n) (c .before .before .before .head-len .ensures ∙ head-is (f .has) refl) in
-    let x = printed (f .has) (a .from) (a .lead) (a .until) (f .before) (f .stood) q (c .before .before .joint-len .ensures) (c .before .printed-from .ensures) in
-    let p = c .units-len .ensures (f .b) (x .i) (x .l) (f .rest) (x .has) in
-    let z = end-is (f .e) (f .has) (a .at + c .before .before .before .head-len .result) (c .units-len .result .last) q (p .last ∙ x .last) in
-    z .1
+end-len-requires c κs = ends c .stands
 
 add-t13 : tie.Need-add-t13
-add-t13 c =
-    let f = c .before .before .before .before .before .before .before .before .pre in
-    let a = c .before .before .before .before .before .before .before .before .args in
-    let q : a .at + c .before .before .before .before .before .head-len .result ≡ a .at + headSize (f .e) = ap (λ (n : ℕ). a .at + n) (c .before .before .before .before .before .head-len .ensures ∙ head-is (f .has) refl) in
-    let x = printed (f .has) (a .from) (a .lead) (a .until) (f .before) (f .stood) q (c .before .before .before .before .joint-len .ensures) (c .before .before .before .printed-from .ensures) in
-    let J : List ℕ = jointText (c .before .before .before .before .joint-len .result) ++ unitsText (f .b) (x .i) (x .l) in
-    let T : List ℕ = tailText (f .b) (f .e) in
-    let n = joint-size (c .before .before .before .before .joint-len .result) (x .few) in
-    let long : length (elementText (f .b) (f .before) (f .e)) ≡ length J + length T = ap length (x .is) ∙ length-append J T in
-    let lj : length J ≡ c .before .before .before .before .joint-len .result + length (unitsText (f .b) (x .i) (x .l)) = length-append (jointText (c .before .before .before .before .joint-len .result)) (unitsText (f .b) (x .i) (x .l)) ∙ rw n in
-    let p = c .before .before .units-len .ensures (f .b) (x .i) (x .l) (f .rest) (x .has) in
-    omega (arith, p .bytes, f .fits, long, lj)
+add-t13 c = omega (arith, ends (c .before .before) .fits)
 
 add-t16 : tie.Need-add-t16
-add-t16 c =
-    let f = c .before .before .before .before .before .before .before .before .pre in
-    let a = c .before .before .before .before .before .before .before .before .args in
-    let q : a .at + c .before .before .before .before .before .head-len .result ≡ a .at + headSize (f .e) = ap (λ (n : ℕ). a .at + n) (c .before .before .before .before .before .head-len .ensures ∙ head-is (f .has) refl) in
-    let x = printed (f .has) (a .from) (a .lead) (a .until) (f .before) (f .stood) q (c .before .before .before .before .joint-len .ensures) (c .before .before .before .printed-from .ensures) in
-    let J : List ℕ = jointText (c .before .before .before .before .joint-len .result) ++ unitsText (f .b) (x .i) (x .l) in
-    let T : List ℕ = tailText (f .b) (f .e) in
-    let n = joint-size (c .before .before .before .before .joint-len .result) (x .few) in
-    let long : length (elementText (f .b) (f .before) (f .e)) ≡ length J + length T = ap length (x .is) ∙ length-append J T in
-    let lj : length J ≡ c .before .before .before .before .joint-len .result + length (unitsText (f .b) (x .i) (x .l)) = length-append (jointText (c .before .before .before .before .joint-len .result)) (unitsText (f .b) (x .i) (x .l)) ∙ rw n in
-    let p = c .before .before .units-len .ensures (f .b) (x .i) (x .l) (f .rest) (x .has) in
-    let z = end-is (f .e) (f .has) (a .at + c .before .before .before .before .before .head-len .result) (c .before .before .units-len .result .last) q (p .last ∙ x .last) in
-    omega (arith, p .bytes, f .fits, long, lj, ap length (z .0), c .before .end-len .ensures)
+add-t16 c = omega (arith, ends (c .before .before) .fits, c .before .end-len .ensures)
 
 returns : tie.Need-returns
-returns c = λ b before e rest h s.
-    let a = c .before .before .before .before .before .before .before .before .args in
-    let q : a .at + c .before .before .before .before .before .head-len .result ≡ a .at + headSize e = ap (λ (n : ℕ). a .at + n) (c .before .before .before .before .before .head-len .ensures ∙ head-is h refl) in
-    let x = printed h (a .from) (a .lead) (a .until) before s q (c .before .before .before .before .joint-len .ensures) (c .before .before .before .printed-from .ensures) in
-    let n = joint-size (c .before .before .before .before .joint-len .result) (x .few) in
-    let J : List ℕ = jointText (c .before .before .before .before .joint-len .result) ++ unitsText b (x .i) (x .l) in
-    let lj : length J ≡ c .before .before .before .before .joint-len .result + length (unitsText b (x .i) (x .l)) = length-append (jointText (c .before .before .before .before .joint-len .result)) (unitsText b (x .i) (x .l)) ∙ rw n in
-    let p = c .before .before .units-len .ensures b (x .i) (x .l) rest (x .has) in
-    let z = end-is e h (a .at + c .before .before .before .before .before .head-len .result) (c .before .before .units-len .result .last) q (p .last ∙ x .last) in
-    record {
-      bytes = omega (arith, ap length (x .is), length-append J (tailText b e), lj, p .bytes, ap length (z .0), c .before .end-len .ensures);
-      lead = q;
-      until = p .last ∙ x .last;
-      next = p .next ∙ x .next;
-    }
+returns c = search (needs, element-measured)
 
 pub element-len-spec : {M : Type 1} → statement M
 element-len-spec =

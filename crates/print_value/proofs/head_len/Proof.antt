@@ -1,4 +1,4 @@
--- A range's field has eleven bytes.
+-- The tag tells the size: a range's field has eleven bytes, a single element's three.
 use borrow.Author.Tests.{eq-eqb, ne-eqb}
 use Rattle.print_value.specs.Values.{headLength}
 use Rattle.print_value.proofs.head_len.Statement.{statement}

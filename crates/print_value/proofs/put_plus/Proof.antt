@@ -1,4 +1,4 @@
--- Two stores.
+-- The two stores, from the start on, are the text.
 use borrow.Author.Needs.{needs}
 use denote.Ref.{now}
 use lib.Seq.{sets-eq}

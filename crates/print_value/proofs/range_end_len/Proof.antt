@@ -1,4 +1,4 @@
--- The lengths of the pieces add up.
+-- The lengths of separator, upper end and increment add up.
 use borrow.Author.Needs.{needs}
 use native.Mathlib.Omega.{arith}
 use Rattle.print_value.proofs.EndLaws.{increment-most, range-len, through-most, whole-numeral-most}
@@ -6,20 +6,15 @@ use Rattle.print_value.proofs.range_end_len.Statement.{statement}
 use Rattle.print_value.proofs.range_end_len.Tie as tie
 
 add-result : tie.Need-add-result
-add-result c =
-    let a = c .before .before .args in
-    omega (arith, c .before .through-len .ensures, c .whole-text-len .ensures, through-most (a .compound), whole-numeral-most (a .base) (a .letter) (a .upper))
+add-result c = let a = c .before .before .args in omega (arith, through-most (a .compound), whole-numeral-most (a .base) (a .letter) (a .upper))
 
 add-result-2 : tie.Need-add-result-2
 add-result-2 c =
     let a = c .before .before .before .args in
-    omega (arith, c .before .before .through-len .ensures, c .before .whole-text-len .ensures, c .increment-len .ensures, through-most (a .compound), whole-numeral-most (a .base) (a .letter) (a .upper), increment-most (a .base) (a .letter) (a .increment))
+    omega (arith, through-most (a .compound), whole-numeral-most (a .base) (a .letter) (a .upper), increment-most (a .base) (a .letter) (a .increment))
 
 returns : tie.Need-returns
-returns c =
-    let a = c .before .before .before .args in
-    let l = range-len (a .base) (a .letter) (a .compound) (a .upper) (a .increment) in
-    omega (arith, c .before .before .through-len .ensures, c .before .whole-text-len .ensures, c .increment-len .ensures, l)
+returns c = let a = c .before .before .before .args in omega (arith, range-len (a .base) (a .letter) (a .compound) (a .upper) (a .increment))
 
 pub range-end-len-spec : {M : Type 1} → statement M
 range-end-len-spec =

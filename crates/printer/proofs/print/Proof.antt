@@ -1,4 +1,4 @@
--- `print` meets its contract: the judge decides 18, and what it calls good is printed by the rule for well-formed records.
+-- The judge decides 18, and what it calls good is printed by the rule for well-formed records.
 use Rattle.printer.proofs.AnswerLaws.{judged-good, judged-bad}
 use borrow.Author.Needs.{needs}
 use Rattle.printer.proofs.print.Statement.{statement}

@@ -1,10 +1,9 @@
 -- `letters` meets its contract: at every turn the letters from here on have the verdict of the whole list.
 use borrow.Author.Needs.{needs}
 use Rattle.read_bases.proofs.BaseLaws.{letters-end, letters-many, letters-wrong, letters-more}
-use native.Mathlib.Omega.{arith}
 use Rattle.token_table.specs.Table.{verdict}
 use Rattle.rules.specs.Reading.{readLetters}
-use mathlib.Core.Path.{_≡_, refl}
+use mathlib.Core.Path.{_≡_}
 use lib.ListN.{length, drop}
 use Prim.Native.Nat.{_-_, _≤_}
 use Rattle.read_bases.proofs.letters.Statement.{statement}
@@ -15,9 +14,6 @@ Inv-loop bases i₀ i = (verdict (readLetters 0 bases) ≡ verdict (readLetters 
 
 abbrev μ-loop : tie.MeasureT-loop
 μ-loop bases i₀ i = length bases - i
-
-loop-holds : tie.Need-loop-holds Inv-loop μ-loop
-loop-holds c = (refl, omega arith)
 
 returns : tie.Need-returns Inv-loop μ-loop
 returns c = search (needs, letters-many)
@@ -37,7 +33,7 @@ letters-spec =
     (tie.spec
     Inv-loop
     μ-loop
-    loop-holds
+    (λ c. search needs)
     (λ c. search needs)
     returns
     (λ c. search needs)

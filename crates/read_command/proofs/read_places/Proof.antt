@@ -1,17 +1,13 @@
 -- `read_places` meets its contract: up to where the loop stands the places are in the tally, and their names are known.
-use Prim.Native.Nat.{_+_, _-_, _≤_}
-use mathlib.Core.Path.{sym}
+use Prim.Native.Nat.{_+_, _-_}
 use mathlib.Core.List.{[]}
-use native.Mathlib.Omega.{arith}
 use lib.ListN.{length}
-use lib.Seq.{length-take-le}
-use denote.Ref.{now}
 use Rattle.rules.specs.Commands.{split}
 use Rattle.rules.specs.Reading.{readPlaces}
 use Rattle.rules.specs.Tokens.{comma}
 use Rattle.token_table.specs.Table.{tokensIn}
 use Rattle.read_bases.specs.Bases.{basesIn}
-use Rattle.token_table.proofs.FindLaws.{found-past, found-inside}
+use Rattle.token_table.proofs.FindLaws.{found-inside, found-next, found-less, taken}
 use Rattle.read_command.specs.Blocks.{placesRead}
 use Rattle.read_command.proofs.TurnLaws.{PlacesFrom, places-start, place-few, places-more, places-stop, places-end}
 use borrow.Author.Needs.{needs}
@@ -27,47 +23,31 @@ abbrev μ-loop : tie.MeasureT-loop
 μ-loop toks contents bases named end i₀ t₀ marks₀ i t marks = length toks + 1 - i
 
 loop-holds : tie.Need-loop-holds Inv-loop μ-loop
-loop-holds c = let a = c .before .before .before .before .args in places-start (a .named) (basesIn (now (a .bases))) (now (a .toks)) (now (a .contents)) (a .end) (a .start) _
-
--- what is found stands inside the table
-inside : (c : tie.After-find Inv-loop μ-loop) → c .find .result ≤ length (now (c .before .before .before .before .before .before .before .args .toks))
-inside c = found-inside (now (c .before .before .before .before .before .before .before .args .toks)) (c .before .before .loop .i) 6 (c .find .ensures) (c .before .loop-test .taken)
+loop-holds c = search (needs, places-start)
 
 slice-aggregate-place : tie.Need-slice-aggregate-place Inv-loop μ-loop
-slice-aggregate-place c = sym (length-take-le (c .before .before .before .loop .i) (now (c .before .before .before .before .before .before .before .before .args .toks)) (c .before .before .loop-test .taken))
+slice-aggregate-place c = search (needs, taken)
 
 part-place-end : tie.Need-part-place-end Inv-loop μ-loop
-part-place-end c = inside (c .before)
+part-place-end c = search (needs, found-inside)
 
 returns : tie.Need-returns Inv-loop μ-loop
-returns c =
-    let v = c .before .no .given .0 in
-    places-stop (c .before .before .before .before .before .before .before .before .before .loop .inv) (c .before .before .before .before .before .before .before .before .loop-test .taken) (c .before .before .before .before .before .before .before .find .ensures) (c .before .before .before .before .place-at .ensures) (c .before .before .before .place .ensures) (v .0) (v .1 .0) (c .before .no .given .1)
+returns c = search (needs, places-stop)
 
 count-requires : tie.Need-count-requires Inv-loop μ-loop
-count-requires c κs =
-    let v = c .before .args2 .given .0 in
-    place-few (c .before .before .before .before .before .before .before .before .before .loop .inv) (c .before .before .before .before .before .before .before .before .loop-test .taken) (c .before .before .before .before .before .before .before .find .ensures) (c .before .before .before .before .place-at .ensures) (c .before .before .before .place .ensures) (v .0) (v .1 .0) (v .1 .1 .0) (v .1 .1 .1 .0) (c .before .args2 .given .1)
+count-requires c κs = search (needs, place-few)
 
 add-i : tie.Need-add-i Inv-loop μ-loop
-add-i c = omega (arith, inside (c .before .before .before .before .before .before .before .before .before), c .before .before .before .before .before .before .before .before .before .before .before .before .before .before .before .before .good .0 .1)
+add-i c = let d : tie.After-find Inv-loop μ-loop = search in search (needs, found-next)
 
 loop-less : tie.Need-loop-less Inv-loop μ-loop
-loop-less c =
-    omega (
-      arith,
-      inside (c .before .before .before .before .before .before .before .before .before),
-      c .before .before .before .before .before .before .before .before .before .before .loop-test .taken,
-      found-past (now (c .before .before .before .before .before .before .before .before .before .before .before .before .before .before .before .before .args .toks)) (c .before .before .before .before .before .before .before .before .before .before .before .loop .i) 6 (c .before .before .before .before .before .before .before .before .before .find .ensures),
-    )
+loop-less c = search (needs, found-less)
 
 loop-again : tie.Need-loop-again Inv-loop μ-loop
-loop-again c =
-    let v = c .before .before .before .args2 .given .0 in
-    places-more (c .before .before .before .before .before .before .before .before .before .before .before .loop .inv) (c .before .before .before .before .before .before .before .before .before .before .loop-test .taken) (c .before .before .before .before .before .before .before .before .before .find .ensures) (c .before .before .before .before .before .before .place-at .ensures) (c .before .before .before .before .before .place .ensures) (v .0) (v .1 .0) (v .1 .1 .0) (v .1 .1 .1 .0) (c .before .before .before .args2 .given .1) (c .before .count .ensures) (c .add-if .ensures)
+loop-again c = search (needs, places-more)
 
 returns-2 : tie.Need-returns-2 Inv-loop μ-loop
-returns-2 c = places-end (c .before .loop .inv) (c .loop-test .left)
+returns-2 c = search (needs, places-end)
 
 pub read-places-spec : {M : Type 1} → statement M
 read-places-spec =

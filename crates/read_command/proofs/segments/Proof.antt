@@ -1,29 +1,24 @@
 -- `segments` meets its contract: the tokens up to the first `:` are the code, those behind it the blocks.
 use borrow.Author.Needs.{needs}
-use Rattle.token_table.proofs.FindLaws.{found-inside}
-use Rattle.read_bases.specs.Bases.{basesIn}
-use lib.Seq.{length-take-le}
-use native.Mathlib.Omega.{arith}
-use mathlib.Core.Path.{sym}
-use denote.Ref.{now}
+use Rattle.token_table.proofs.FindLaws.{found-inside, found-next, taken}
 use Rattle.read_command.proofs.CommandLaws.{segments-wrong, segments-fine}
 use Rattle.read_command.proofs.segments.Statement.{statement}
 use Rattle.read_command.proofs.segments.Tie as tie
 
 slice-aggregate-pieces : tie.Need-slice-aggregate-pieces
-slice-aggregate-pieces c = let ts = now (c .before .before .before .before .before .before .args .toks) in sym (length-take-le (c .before .before .find .result) ts (found-inside ts 0 7 (c .before .before .find .ensures) (omega arith)))
+slice-aggregate-pieces c = search (needs, taken, found-inside)
 
 slice-aggregate-pieces-len : tie.Need-slice-aggregate-pieces-len
-slice-aggregate-pieces-len c = let ts = now (c .before .before .before .before .before .before .before .before .before .before .args .toks) in sym (length-take-le (c .before .before .before .before .before .before .find .result) ts (found-inside ts 0 7 (c .before .before .before .before .before .before .find .ensures) (omega arith)))
+slice-aggregate-pieces-len c = search (needs, taken, found-inside)
 
 add-read-blocks : tie.Need-add-read-blocks
-add-read-blocks c = omega (arith, found-inside (now (c .before .before .before .before .before .before .before .before .before .before .before .args .toks)) 0 7 (c .before .before .before .before .before .before .before .find .ensures) (omega arith), c .before .before .before .before .before .before .before .before .before .before .before .good .0 .1)
+add-read-blocks c = search (needs, found-next)
 
 returns : tie.Need-returns
-returns c = let a = c .before .before .before .before .before .before .before .before .before .before .args in let v = c .before .no .given .0 in segments-wrong (basesIn (now (a .bases))) (now (a .toks)) (now (a .contents)) (a .end) (v .0) (v .1 .0) (c .before .before .before .before .before .before .find .ensures) (c .before .before .before .before .before .place-at .ensures) (c .before .before .before .pieces .ensures) (c .before .no .given .1)
+returns c = search (needs, segments-wrong)
 
 returns-2 : tie.Need-returns-2
-returns-2 c = let a = c .before .before .before .before .before .before .before .before .before .before .before .before .before .args in segments-fine (basesIn (now (a .bases))) (now (a .toks)) (now (a .contents)) (a .end) (c .before .before .before .before .before .before .before .before .before .find .ensures) (c .before .before .before .before .before .before .before .before .place-at .ensures) (c .before .before .before .before .before .before .pieces .ensures) (c .before .before .before .before .enum-told .given .1) (c .before .before .pieces-len .ensures) (c .before .read-blocks .ensures) (c .finish .ensures)
+returns-2 c = search (needs, segments-fine)
 
 pub segments-spec : {M : Type 1} → statement M
 segments-spec =

@@ -1,8 +1,7 @@
 -- `all_elements` meets its contract: at every turn the elements counted and the rules' elements from there on are the whole.
 use borrow.Author.Needs.{needs}
-use Rattle.read_elements.proofs.WalkLaws.{Walking, walking-none, walking-long, walking-many, walking-bad, walking-more, walking-on, walking-end}
+use Rattle.read_elements.proofs.WalkLaws.{Walking, walking-none, walking-long, walking-many, walking-bad, walking-more, walking-less, walking-end}
 use Rattle.read_joins.specs.Joins.{joinsIn, count}
-use denote.Ref.{now}
 use mathlib.Core.List.{[]}
 use Prim.Native.Nat.{_-_}
 use native.Mathlib.Omega.{arith}
@@ -22,29 +21,16 @@ returns : tie.Need-returns Inv-loop μ-loop
 returns c = search (needs, walking-long)
 
 loop-holds : tie.Need-loop-holds Inv-loop μ-loop
-loop-holds c =
-    let a = c .before .before .before .before .args in
-    walking-none (a .base) (now (a .contents)) (now (a .toks)) (c .before .arg-end .ensures) (omega arith)
+loop-holds c = search (needs, walking-none)
 
 returns-2 : tie.Need-returns-2 Inv-loop μ-loop
 returns-2 c = search (needs, walking-many)
 
 loop-less : tie.Need-loop-less Inv-loop μ-loop
-loop-less c =
-    let d = c .before .before .before .before .before .before .before in
-    let a = d .before .before .before .before .before .args in
-    omega (
-      arith,
-      walking-on (a .base) (now (a .contents)) (now (a .toks)) (d .loop .inv) (c .before .before .before .before .before .before .count .ensures) (c .before .before .before .before .before .if2 .taken)
-          (c .before .before .before .later .ensures) (c .before .before .outcome .ensures) (c .before .if4 .taken),
-    )
+loop-less c = search (needs, walking-less)
 
 loop-again : tie.Need-loop-again Inv-loop μ-loop
-loop-again c =
-    let d = c .before .before .before .before .before .before .before in
-    let a = d .before .before .before .before .before .args in
-    walking-more (a .base) (now (a .contents)) (now (a .toks)) (d .loop .inv) (c .before .before .before .before .before .before .count .ensures) (c .before .before .before .before .before .if2 .taken)
-    (c .before .before .before .later .ensures) (c .before .before .outcome .ensures) (omega (arith, c .before .before .before .before .if3 .left)) (c .before .if4 .taken) (omega (arith, c .struct-known .given))
+loop-again c = search (needs, walking-more)
 
 returns-3 : tie.Need-returns-3 Inv-loop μ-loop
 returns-3 c = search (needs, walking-bad)

@@ -2,10 +2,8 @@
 use Prim.Native.Nat.{ℕ, _+_, _-_}
 use mathlib.Core.Path.{_≡_, refl}
 use mathlib.Core.List.{List}
-use native.Mathlib.Omega.{arith}
-use denote.Ref.{now}
 use Rattle.read_joins.specs.Joins.{joinsIn, dashesAt, count}
-use Rattle.read_joins.proofs.GroupLaws.{dashes-more, dashes-end, dash-room}
+use Rattle.read_joins.proofs.GroupLaws.{dashes-more, dashes-end, dash-fits, dash-less}
 use borrow.Author.Needs.{needs}
 use Rattle.read_joins.proofs.arg_end.Statement.{statement}
 use Rattle.read_joins.proofs.arg_end.Tie as tie
@@ -20,10 +18,10 @@ loop-holds : tie.Need-loop-holds Inv-loop μ-loop
 loop-holds c = λ b cs. refl
 
 add-k : tie.Need-add-k Inv-loop μ-loop
-add-k c = omega (arith, dash-room (now (c .before .before .before .before .args .toks)) (c .before .before .loop .k) (c .before .sep-kind .ensures) (c .if1 .taken))
+add-k c = search (needs, dash-fits)
 
 loop-less : tie.Need-loop-less Inv-loop μ-loop
-loop-less c = omega (arith, dash-room (now (c .before .before .before .before .args .toks)) (c .before .before .loop .k) (c .before .sep-kind .ensures) (c .if1 .taken))
+loop-less c = search (needs, dash-less)
 
 loop-again : tie.Need-loop-again Inv-loop μ-loop
 loop-again c = search (needs, dashes-more)

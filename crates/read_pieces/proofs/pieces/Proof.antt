@@ -1,9 +1,7 @@
 -- `pieces` meets its contract: at every turn the rest of the tokens has the verdict of the whole.
-use native.Mathlib.Omega.{arith}
 use mathlib.Core.Path.{_≡_, refl}
 use Prim.Native.Nat.{_-_}
 use lib.ListN.{length, drop}
-use denote.Ref.{now}
 use mathlib.Core.Bool.{true, false}
 use Rattle.read_pieces.specs.Pieces.{piecesAt}
 use Rattle.read_pieces.proofs.PieceLaws.{piece-more, piece-stop, dash-more, dash-left, dash-stop, pieces-short, pieces-fine}
@@ -27,15 +25,12 @@ returns : tie.Need-returns Inv-loop μ-loop
 returns c = search (needs, piece-stop)
 
 sub-left : tie.Need-sub-left Inv-loop μ-loop
-sub-left c =
-    let d = c .before .before .before .before .before in let a = d .before .before .before .args in
-    omega (arith, dash-left (a .no) (a .names) (now (a .contents)) (now (a .toks)) (a .end) (d .loop .i) (d .loop .left) (c .before .is-dash .ensures) (c .if3 .taken))
+sub-left c = dash-left _ _ (c .before .is-dash .ensures) (c .if3 .taken)
 
 loop-again-2 : tie.Need-loop-again-2 Inv-loop μ-loop
 loop-again-2 c =
-    let d = c .before .before .before .before .before in let a = d .before .before .before .args in
-    dash-more (a .no) (a .names) (now (a .contents)) (now (a .toks)) (a .end) (d .loop .i) (d .loop .index) (d .loop .left) (d .loop .inv) (c .before .before .before .before .loop-test .taken)
-    (c .before .before .if1 .left) (c .before .is-dash .ensures) (c .if3 .taken)
+    let d = c .before .before .before .before in
+    dash-more _ _ _ _ _ _ _ _ (d .before .loop .inv) (d .loop-test .taken) (c .before .before .if1 .left) (c .before .is-dash .ensures) (c .if3 .taken)
 
 returns-2 : tie.Need-returns-2 Inv-loop μ-loop
 returns-2 c = search (needs, dash-stop)

@@ -1,12 +1,11 @@
 -- `with_value` meets its contract: sizes that are capped one by one are capped as a sum.
 use borrow.Author.Needs.{needs}
-use denote.Ref.{now}
 use Rattle.read_place.proofs.PlaceLaws.{sized}
 use Rattle.read_place.proofs.with_value.Statement.{statement}
 use Rattle.read_place.proofs.with_value.Tie as tie
 
 returns : tie.Need-returns
-returns c = sized (now (c .before .before .before .before .before .args .toks)) (now (c .before .before .before .before .before .args .contents)) (c .before .before .before .before .before .args .base) (c .before .before .before .before .before .args .head) (c .before .before .value-len .ensures) (c .before .cap .ensures) (c .cap2 .ensures)
+returns c = search (needs, sized)
 
 pub with-value-spec : {M : Type 1} → statement M
 with-value-spec =

@@ -2,7 +2,6 @@
 use mathlib.Core.Path.{_≡_, refl}
 use Prim.Native.Nat.{_-_}
 use lib.ListN.{length, drop}
-use denote.Ref.{now}
 use Rattle.read_value.specs.Passes.{unitsVerdict}
 use Rattle.read_value.proofs.PassLaws.{units-more, units-stop, units-end}
 use borrow.Author.Needs.{needs}
@@ -19,15 +18,10 @@ loop-holds : tie.Need-loop-holds Inv-loop μ-loop
 loop-holds c = refl
 
 returns : tie.Need-returns Inv-loop μ-loop
-returns c = let a = c .before .before .before .before .before .before .before .before .before .args in
-    let v = c .before .no .given .0 in
-    units-stop (a .base) (now (a .contents)) (now (a .toks)) (c .before .before .before .before .before .before .loop .i) (v .0) (v .1 .0) (c .before .before .before .before .before .before .loop .inv) (c .before .before .before .before .before .loop-test .taken)
-    (c .before .before .before .unit-verdict .ensures) (c .before .no .given .1)
+returns c = search (needs, units-stop)
 
 loop-again : tie.Need-loop-again Inv-loop μ-loop
-loop-again c = let a = c .before .before .before .before .before .before .before .before .args in
-    units-more (a .base) (now (a .contents)) (now (a .toks)) (c .before .before .before .before .before .loop .i) (c .before .before .before .before .before .loop .inv) (c .before .before .before .before .loop-test .taken)
-    (c .before .before .unit-verdict .ensures) (c .enum-told .given .1)
+loop-again c = search (needs, units-more)
 
 returns-2 : tie.Need-returns-2 Inv-loop μ-loop
 returns-2 c = search (needs, units-end)

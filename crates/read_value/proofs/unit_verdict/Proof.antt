@@ -1,24 +1,15 @@
 -- `unit_verdict` meets its contract: what is cut out of the contents is the token's content.
-use native.Mathlib.Omega.{arith}
-use denote.Ref.{now}
-use Rattle.token_table.proofs.ContentLaws.{Cuts, cuts}
+use Rattle.token_table.proofs.ContentLaws.{cut-ordered, cut-inside}
 use Rattle.read_value.proofs.PassLaws.{word-is, word-none}
 use borrow.Author.Needs.{needs}
 use Rattle.read_value.proofs.unit_verdict.Statement.{statement}
 use Rattle.read_value.proofs.unit_verdict.Tie as tie
 
--- what is cut out is the token's content
-cut : (c : tie.After-end) → let a = c .before .before .before .before .before .args in Cuts (now (a .contents)) (a .t) (c .before .start .result) (c .end .result)
-cut c = let a = c .before .before .before .before .before .args in cuts (now (a .contents)) (a .t) (c .before .start .ensures) (c .end .ensures)
-
 sub-read-word : tie.Need-sub-read-word
-sub-read-word c = omega (arith, cut c)
-
-part-read-word-start : tie.Need-part-read-word-start
-part-read-word-start c = omega (arith, cut c)
+sub-read-word c = search (needs, cut-ordered)
 
 part-read-word-end : tie.Need-part-read-word-end
-part-read-word-end c = omega (arith, cut c)
+part-read-word-end c = search (needs, cut-inside)
 
 returns : tie.Need-returns
 returns c = search (needs, word-is)
@@ -34,7 +25,7 @@ unit-verdict-spec =
     (λ c κs. search needs)
     (λ c κs. search needs)
     sub-read-word
-    part-read-word-start
+    sub-read-word
     part-read-word-end
     (λ c κs. search needs)
     (λ c κs. search needs)

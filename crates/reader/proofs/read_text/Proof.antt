@@ -1,10 +1,9 @@
--- Each step answers as the rule does; the laws of the reader are applied along the path.
+-- `read_text` meets its contract: a text that is too long is refused as the rules refuse it, and any other has tables of its length.
 use borrow.Author.Needs.{needs}
-use denote.Ref.{now}
 use Rattle.chars.specs.Classes.{table}
 use mathlib.Core.Path.{refl}
-use Rattle.reader.proofs.ReadLaws.{text-long}
 use native.Mathlib.Omega.{arith}
+use Rattle.reader.proofs.ReadLaws.{text-long}
 use Rattle.reader.proofs.read_text.Statement.{statement}
 use Rattle.reader.proofs.read_text.Tie as tie
 
@@ -12,7 +11,7 @@ cast-t7 : tie.Need-cast-t7
 cast-t7 c = omega arith
 
 returns : tie.Need-returns
-returns c = text-long (now (c .before .before .before .before .args .text)) (now (c .before .before .before .before .args .bases)) (now (c .before .before .before .before .args .out)) (c .if1 .taken)
+returns c = search (needs, text-long)
 
 read-short-requires : tie.Need-read-short-requires
 unfolding table

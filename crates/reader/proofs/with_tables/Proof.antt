@@ -1,25 +1,20 @@
--- Each step answers as the rule does; the laws of the reader are applied along the path.
+-- `with_tables` meets its contract: the tables hold the tokens of the text, or the scan is refused as the rules refuse it.
 use borrow.Author.Needs.{needs}
-use denote.Ref.{now}
-use Rattle.reader.proofs.ScanLaws.{scan-at}
-use Rattle.reader.proofs.ReadLaws.{filled-bad, filled-done, text-refused, text-filled}
-use native.Mathlib.Omega.{arith}
+use Rattle.reader.proofs.ReadLaws.{refused-place, filled-table, filled-tokens, text-refused, text-filled}
 use Rattle.reader.proofs.with_tables.Statement.{statement}
 use Rattle.reader.proofs.with_tables.Tie as tie
 
 cast-t17 : tie.Need-cast-t17
-cast-t17 c = omega (arith, scan-at (now (c .before .before .before .before .before .before .before .before .before .before .before .before .before .before .before .args .text)) _ _ (c .before .before .before .before .before .before .before .before .before .before .before .before .before .before .before .pre .1) (filled-bad _ _ _ (c .before .before .before .before .before .before .before .tokens .ensures) (c .before .no .given .1)))
+cast-t17 c = search (needs, refused-place)
 
 put-filled-requires : tie.Need-put-filled-requires
-put-filled-requires c κs =
-    let w = (filled-done _ _ _ (c .before .before .before .before .before .before .before .before .before .before .tokens .ensures) (c .before .before .before .before .tokens2 .given .1)) in
-    (w .table, record { text = (now (c .before .before .before .before .before .before .before .before .before .before .before .before .before .before .before .before .before .before .args .text)); is = w .is })
+put-filled-requires c κs = search (needs, filled-table, filled-tokens)
 
 returns : tie.Need-returns
-returns c = text-refused (now (c .before .before .before .before .before .before .before .before .before .before .before .before .before .before .before .args .text)) (now (c .before .before .before .before .before .before .before .before .before .before .before .before .before .before .before .args .bases)) (now (c .before .before .before .before .before .before .before .before .before .before .before .before .before .before .before .args .out)) _ _ (filled-bad _ _ _ (c .before .before .before .before .before .before .before .tokens .ensures) (c .before .no .given .1))
+returns c = search (needs, text-refused)
 
 returns-2 : tie.Need-returns-2
-returns-2 c = text-filled (now (c .before .before .before .before .before .before .before .before .before .before .before .before .before .before .before .before .before .before .before .before .before .args .text)) (now (c .before .before .before .before .before .before .before .before .before .before .before .before .before .before .before .before .before .before .before .before .before .args .bases)) (now (c .before .before .before .before .before .before .before .before .before .before .before .before .before .before .before .before .before .before .before .before .before .args .out)) (filled-done _ _ _ (c .before .before .before .before .before .before .before .before .before .before .before .before .before .tokens .ensures) (c .before .before .before .before .before .before .before .tokens2 .given .1)) (c .before .before .put-filled .ensures)
+returns-2 c = search (needs, text-filled)
 
 pub with-tables-spec : {M : Type 1} → statement M
 with-tables-spec =

@@ -1,25 +1,33 @@
 -- `after` meets its contract: the length stands behind the tag, and since the record is whole the field ends inside.
 use borrow.Author.Needs.{needs}
-use Rattle.record_walk.proofs.RunLaws.{after-none, after-some, after-on, whole-after}
+use Rattle.record_walk.proofs.RunLaws.{after-none, after-some, header-inside, whole-after}
+use Prim.Native.Nat.{_+_, _≤_}
+use lib.ListN.{length}
 use native.Mathlib.Omega.{arith}
 use denote.Ref.{now}
 use Rattle.record_walk.proofs.after.Statement.{statement}
 use Rattle.record_walk.proofs.after.Tie as tie
 
+-- the header stands inside
+header : (c : tie.Then1) → c .before .before .args .at + 3 ≤ length (now (c .before .before .args .rec))
+header c = search (needs, header-inside)
+
 shared-slice-read-field-end : tie.Need-shared-slice-read-field-end
-shared-slice-read-field-end c = omega (arith, whole-after (c .before .before .before .pre) .inside, after-on (now (c .before .before .before .args .rec)) (c .before .before .before .args .at) (c .before .if1 .taken))
+shared-slice-read-field-end c = omega (arith, header (c .before))
 
 shared-slice-read-field-end-2 : tie.Need-shared-slice-read-field-end-2
-shared-slice-read-field-end-2 c = omega (arith, whole-after (c .before .before .before .before .pre) .inside, after-on (now (c .before .before .before .before .args .rec)) (c .before .before .before .before .args .at) (c .before .before .if1 .taken))
+shared-slice-read-field-end-2 c = omega (arith, header (c .before .before))
 
 add-result : tie.Need-add-result
-add-result c = omega (arith, after-some (now (c .before .before .before .before .before .args .rec)) (c .before .before .before .before .before .args .at) (c .field-end .ensures) (c .before .before .before .if1 .taken), whole-after (c .before .before .before .before .before .pre) .inside)
+add-result c =
+    let a = c .before .before .before .before .before in
+    omega (arith, after-some (now (a .args .rec)) (a .args .at) (c .field-end .ensures) (c .before .before .before .if1 .taken), whole-after (a .pre) .inside)
 
 returns : tie.Need-returns
-returns c = after-some (now (c .before .before .before .before .before .args .rec)) (c .before .before .before .before .before .args .at) (c .field-end .ensures) (c .before .before .before .if1 .taken)
+returns c = search (needs, after-some)
 
 returns-2 : tie.Need-returns-2
-returns-2 c = after-none (now (c .before .before .args .rec)) (c .before .before .args .at) (c .if1 .left)
+returns-2 c = search (needs, after-none)
 
 pub after-spec : {M : Type 1} → statement M
 after-spec =

@@ -16,10 +16,10 @@ loop-holds : tie.Need-loop-holds Inv-loop μ-loop
 loop-holds c = search (needs, comment-none)
 
 returns : tie.Need-returns Inv-loop μ-loop
-returns c = comment-stop _ _ _ (c .before .before .before .before .before .loop .inv) (c .before .before .before .before .loop-test .taken) (c .before .before .if1 .taken) (c .before .byte .ensures) (c .if2 .taken)
+returns c = let l : tie.At-loop Inv-loop μ-loop = search in search (needs, comment-stop (l .loop .inv))
 
 loop-again : tie.Need-loop-again Inv-loop μ-loop
-loop-again c = comment-star _ _ _ (c .before .before .before .before .before .loop .inv) (c .before .before .before .before .loop-test .taken) (c .before .before .if1 .taken) (c .before .byte .ensures) (c .if2 .left)
+loop-again c = let l : tie.At-loop Inv-loop μ-loop = search in search (needs, comment-star (l .loop .inv))
 
 loop-again-2 : tie.Need-loop-again-2 Inv-loop μ-loop
 loop-again-2 c = search (needs, comment-more)

@@ -1,9 +1,8 @@
 -- `string` meets its contract: each turn is a step of the automaton in the string, and what is stored is what it has gathered.
-use Rattle.scan.proofs.StringLaws.{Stringing, string-none, string-room, string-double, string-byte, string-stop, string-open}
-use native.Mathlib.Omega.{arith}
 use lib.ListN.{length}
 use Prim.Native.Nat.{_-_}
 use borrow.Author.Needs.{needs}
+use Rattle.scan.proofs.StringLaws.{Stringing, string-none, string-room, string-fits, string-double, string-byte, string-stop, string-open}
 use Rattle.scan.proofs.string.Statement.{statement}
 use Rattle.scan.proofs.string.Tie as tie
 
@@ -14,37 +13,37 @@ abbrev μ-loop : tie.MeasureT-loop
 μ-loop text from out₀ n₀ i₀ out n i = length text - i
 
 loop-holds : tie.Need-loop-holds Inv-loop μ-loop
-loop-holds c = string-none _ _ _ (c .before .before .pre)
+loop-holds c = search (needs, string-none)
 
 slice-write-out : tie.Need-slice-write-out Inv-loop μ-loop
-slice-write-out c = string-room (c .before .before .before .before .before .loop .inv) (c .before .before .before .before .loop-test .taken)
+slice-write-out c = search (needs, string-room)
 
 add-n : tie.Need-add-n Inv-loop μ-loop
-add-n c = omega (arith, c .before .before .before .before .before .loop .inv .fits)
+add-n c = search (needs, string-fits)
 
 loop-again : tie.Need-loop-again Inv-loop μ-loop
-loop-again c = string-double (c .before .before .before .before .before .loop .inv) (c .before .before .before .before .loop-test .taken) (c .before .before .if1 .taken) (c .before .byte .ensures) (c .if2 .taken)
+loop-again c = search (needs, string-double)
 
 same-length : tie.Need-same-length Inv-loop μ-loop
 same-length c = c .before .before .before .before .before .loop .inv .long
 
 returns : tie.Need-returns Inv-loop μ-loop
-returns c = string-stop (c .before .before .before .before .before .loop .inv) (c .before .before .before .before .loop-test .taken) (c .before .before .if1 .taken) (c .before .byte .ensures) (c .if2 .left)
+returns c = search (needs, string-stop)
 
 slice-write-out-2 : tie.Need-slice-write-out-2 Inv-loop μ-loop
-slice-write-out-2 c = string-room (c .before .before .before .loop .inv) (c .before .before .loop-test .taken)
+slice-write-out-2 c = search (needs, string-room)
 
 add-n-2 : tie.Need-add-n-2 Inv-loop μ-loop
-add-n-2 c = omega (arith, c .before .before .before .loop .inv .fits)
+add-n-2 c = search (needs, string-fits)
 
 loop-again-2 : tie.Need-loop-again-2 Inv-loop μ-loop
-loop-again-2 c = string-byte (c .before .before .before .loop .inv) (c .before .before .loop-test .taken) (c .if1 .left)
+loop-again-2 c = search (needs, string-byte)
 
 same-length-2 : tie.Need-same-length-2 Inv-loop μ-loop
 same-length-2 c = c .before .loop .inv .long
 
 returns-2 : tie.Need-returns-2 Inv-loop μ-loop
-returns-2 c = string-open (c .before .loop .inv) (c .loop-test .left)
+returns-2 c = search (needs, string-open)
 
 pub string-spec : {M : Type 1} → statement M
 string-spec =

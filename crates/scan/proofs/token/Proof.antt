@@ -1,37 +1,37 @@
 -- `token` meets its contract: the class of the first byte says what the automaton begins.
-use Rattle.scan.proofs.TokenLaws.{starts-word, starts-string, starts-one, starts-other, starts-amp, starts-plus, starts-none, again}
 use denote.Ref.{now}
 use native.Mathlib.Omega.{arith}
 use borrow.Author.Needs.{needs}
+use Rattle.scan.proofs.TokenLaws.{starts-word, starts-string, starts-one, starts-other, starts-amp, starts-plus, starts-none}
 use Rattle.scan.proofs.token.Statement.{statement}
 use Rattle.scan.proofs.token.Tie as tie
 
 word-token-requires : tie.Need-word-token-requires
-word-token-requires c κs = (search needs, omega arith, omega (arith, c .before .before .before .before .before .pre .1 .inside), omega (arith, c .before .before .before .before .before .pre .2))
+word-token-requires c κs = let s : tie.Start = search in (search needs, omega arith, omega (arith, s .pre .1 .inside), omega (arith, s .pre .2))
 
 returns : tie.Need-returns
-returns c = again (now (c .before .before .before .before .before .before .before .before .args .text)) (c .before .before .before .before .before .before .before .before .args .place) (c .before .before .before .before .before .before .before .before .args .place) (c .before .before .word-token .last .1 .1 .1 .1 .1 .0) (c .before .before .word-token .result) (starts-word (c .before .before .before .before .before .before .before .before .pre .1) (c .before .before .before .before .before .if1 .taken)) (omega arith) (c .before .before .word-token .ensures)
+returns c = search (needs, starts-word)
 
 string-token-requires : tie.Need-string-token-requires
-string-token-requires c κs = (starts-string (c .before .before .before .before .before .before .pre .1) (c .before .if3 .taken), c .before .before .before .before .before .before .pre .2)
+string-token-requires c κs = search (needs, starts-string)
 
 returns-3 : tie.Need-returns-3
-returns-3 c = starts-other (c .before .before .before .before .before .before .pre .1) (c .if4 .taken)
+returns-3 c = search (needs, starts-other)
 
 returns-4 : tie.Need-returns-4
-returns-4 c = starts-one (c .before .before .before .before .before .before .pre .1) (c .before .before .if2 .taken) (c .before .if3 .left) (c .if4 .left) (now (c .before .before .before .before .before .before .args .out))
+returns-4 c = search (needs, starts-one)
 
 amp-token-requires : tie.Need-amp-token-requires
-amp-token-requires c κs = (search needs, starts-amp (c .before .before .before .before .before .pre .1) (c .if5 .taken))
+amp-token-requires c κs = search (needs, starts-amp)
 
 returns-5 : tie.Need-returns-5
-returns-5 c = c .amp-token .ensures (now (c .before .before .before .before .before .before .args .out))
+returns-5 c = let s : tie.Start = search in c .amp-token .ensures (now (s .args .out))
 
 plus-token-requires : tie.Need-plus-token-requires
-plus-token-requires c κs = (search needs, starts-plus (c .before .before .before .before .before .before .before .pre .1) (c .before .if6 .taken), c .before .before .before .before .before .before .before .pre .2)
+plus-token-requires c κs = search (needs, starts-plus)
 
 returns-7 : tie.Need-returns-7
-returns-7 c = starts-none (c .before .before .before .before .before .before .pre .1) (c .before .before .if2 .left) (c .before .before .before .if1 .left) (c .if6 .left) (c .before .if5 .left)
+returns-7 c = search (needs, starts-none)
 
 pub token-spec : {M : Type 1} → statement M
 token-spec =

@@ -1,11 +1,9 @@
 -- `word` meets its contract: each turn is a step of the automaton in the word, and what is stored is what it has gathered.
-use lib.ListN.{length, length-set}
-use denote.Ref.{now}
-use mathlib.Core.Path.{_∙_}
-use Rattle.scan.proofs.WordLaws.{Wording, word-none, word-room, word-char, word-skip, word-double, word-plus, word-other, word-end}
+use lib.ListN.{length}
 use native.Mathlib.Omega.{arith}
 use Prim.Native.Nat.{_-_}
 use borrow.Author.Needs.{needs}
+use Rattle.scan.proofs.WordLaws.{Wording, word-none, word-kept, word-room, word-fits, word-char, word-skip, word-double, word-plus, word-other, word-end}
 use Rattle.scan.proofs.word.Statement.{statement}
 use Rattle.scan.proofs.word.Tie as tie
 
@@ -16,49 +14,49 @@ abbrev μ-loop : tie.MeasureT-loop
 μ-loop text classes first from out₀ n₀ i₀ out n i = length text - i
 
 loop-holds : tie.Need-loop-holds Inv-loop μ-loop
-loop-holds c = word-none _ _ _ (now (c .before .before .args .out)) (c .before .before .pre .1) (c .before .before .pre .2)
+loop-holds c = search (needs, word-none)
 
 slice-write-out-2 : tie.Need-slice-write-out-2 Inv-loop μ-loop
-slice-write-out-2 c = word-room (c .before .before .before .before .before .loop .inv) (c .before .before .before .before .loop-test .taken)
+slice-write-out-2 c = search (needs, word-room)
 
 add-n : tie.Need-add-n Inv-loop μ-loop
-add-n c = omega (arith, c .before .before .before .before .before .loop .inv .fits)
+add-n c = search (needs, word-fits)
 
 loop-again : tie.Need-loop-again Inv-loop μ-loop
-loop-again c = word-char (c .before .before .before .before .before .loop .inv) (c .before .before .before .before .loop-test .taken) (c .before .before .class .ensures) (c .before .if1 .taken)
+loop-again c = search (needs, word-char)
 
 loop-again-2 : tie.Need-loop-again-2 Inv-loop μ-loop
-loop-again-2 c = word-skip (c .before .before .before .before .before .loop .inv) (c .before .before .before .before .loop-test .taken) (c .before .before .class .ensures) (c .if2 .taken)
+loop-again-2 c = search (needs, word-skip)
 
 same-length : tie.Need-same-length Inv-loop μ-loop
-same-length c = c .before .before .before .before .before .before .before .before .before .loop .inv .long ∙ length-set (now (c .before .before .before .before .before .before .before .before .before .before .before .before .args .out)) 0 (c .before .before .before .before .before .before .before .before .before .before .before .before .args .first)
+same-length c = search (needs, word-kept)
 
 returns : tie.Need-returns Inv-loop μ-loop
-returns c = word-double (c .before .before .before .before .before .before .before .before .before .loop .inv) (c .before .before .before .before .before .before .before .before .loop-test .taken) (c .before .before .before .before .before .before .class .ensures) (c .before .before .before .if3 .taken) (c .before .before .skip .ensures) (c .before .byte .ensures) (c .if4 .taken)
+returns c = search (needs, word-double)
 
 slice-write-out-3 : tie.Need-slice-write-out-3 Inv-loop μ-loop
-slice-write-out-3 c = word-room (c .before .before .before .before .before .before .before .before .before .loop .inv) (c .before .before .before .before .before .before .before .before .loop-test .taken)
+slice-write-out-3 c = search (needs, word-room)
 
 add-n-2 : tie.Need-add-n-2 Inv-loop μ-loop
-add-n-2 c = omega (arith, c .before .before .before .before .before .before .before .before .before .loop .inv .fits)
+add-n-2 c = search (needs, word-fits)
 
 loop-less-3 : tie.Need-loop-less-3 Inv-loop μ-loop
 loop-less-3 c = omega (arith, c .before .before .skip .ensures .past)
 
 loop-again-3 : tie.Need-loop-again-3 Inv-loop μ-loop
-loop-again-3 c = word-plus (c .before .before .before .before .before .before .before .before .before .loop .inv) (c .before .before .before .before .before .before .before .before .loop-test .taken) (c .before .before .before .before .before .before .class .ensures) (c .before .before .before .if3 .taken) (c .before .before .skip .ensures) (c .before .byte .ensures) (c .if4 .left)
+loop-again-3 c = search (needs, word-plus)
 
 same-length-2 : tie.Need-same-length-2 Inv-loop μ-loop
-same-length-2 c = c .before .before .before .before .before .before .loop .inv .long ∙ length-set (now (c .before .before .before .before .before .before .before .before .before .args .out)) 0 (c .before .before .before .before .before .before .before .before .before .args .first)
+same-length-2 c = search (needs, word-kept)
 
 returns-2 : tie.Need-returns-2 Inv-loop μ-loop
-returns-2 c = word-other (c .before .before .before .before .before .before .loop .inv) (c .before .before .before .before .before .loop-test .taken) (c .before .before .before .class .ensures) (c .before .before .if1 .left) (c .before .if2 .left) (c .if3 .left)
+returns-2 c = search (needs, word-other)
 
 same-length-3 : tie.Need-same-length-3 Inv-loop μ-loop
-same-length-3 c = c .before .loop .inv .long ∙ length-set (now (c .before .before .before .before .args .out)) 0 (c .before .before .before .before .args .first)
+same-length-3 c = search (needs, word-kept)
 
 returns-3 : tie.Need-returns-3 Inv-loop μ-loop
-returns-3 c = word-end (c .before .loop .inv) (c .loop-test .left)
+returns-3 c = search (needs, word-end)
 
 pub word-spec : {M : Type 1} → statement M
 word-spec =

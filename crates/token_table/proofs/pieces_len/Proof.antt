@@ -1,7 +1,6 @@
 -- `pieces_len` meets its contract: the size so far and the words from here on are the whole, capped, and a size that is capped at each turn is capped at the end.
 use borrow.Author.Needs.{needs}
-use Rattle.token_table.proofs.ContentLaws.{content-small}
-use lib.ListN.{getD}
+use Rattle.token_table.proofs.ContentLaws.{size-fits}
 use Rattle.token_table.proofs.WordLaws.{size-more, size-end, cap-most}
 use Rattle.token_table.specs.Parts.{capped, wordsSize, wordsIn}
 use native.Mathlib.Omega.{arith}
@@ -22,7 +21,7 @@ loop-holds : tie.Need-loop-holds Inv-loop μ-loop
 loop-holds c = (ap capped (omega arith), omega arith)
 
 add-cap-2 : tie.Need-add-cap-2 Inv-loop μ-loop
-add-cap-2 c = omega (arith, c .content-len .ensures, content-small (c .before .before .before .before .before .before .args .contents .now) (getD (c .before .before .before .before .before .before .args .toks .now) (c .before .before .before .loop .i) 0))
+add-cap-2 c = search (needs, size-fits)
 
 loop-again : tie.Need-loop-again Inv-loop μ-loop
 loop-again c = (search (needs, size-more), search (needs, cap-most))

@@ -1,15 +1,11 @@
 -- Digits to the end are the numeral under D by `decimal-all`; all else is read by the rules in turn.
 use borrow.Author.Needs.{needs}
-use denote.Ref.{now}
-use mathlib.Core.Path.{_∙_}
 use Rattle.units.proofs.DecimalLaws.{decimal-all}
 use Rattle.units.proofs.read_word.Statement.{statement}
 use Rattle.units.proofs.read_word.Tie as tie
 
 returns : tie.Need-returns
-returns c =
-    let a = c .before .before .before .before .before .before .before .args in
-    c .sized-unit .ensures ∙ decimal-all (a .base) (now (a .word)) (c .before .before .before .before .before .if1 .taken) (c .before .before .before .before .digits .ensures) (c .before .before .if2 .taken) (c .before .if3 .taken)
+returns c = search (needs, decimal-all)
 
 returns-2 : tie.Need-returns-2
 returns-2 c = rw (c .before .before .before .before .if1 .taken) (c .any-unit .ensures)

@@ -1,15 +1,11 @@
 -- `put_elements` meets its contract: at every turn the elements done stand over the start of the buffer.
 use borrow.Author.Needs.{needs}
-use Rattle.value_fields.proofs.WriteLaws.{Writing, writing-none, writing-end, writing-room, writing-more}
-use Rattle.value_fields.proofs.TurnLaws.{Met, met}
-use Rattle.value_fields.specs.Measure.{elementBytes}
 use Rattle.read_joins.specs.Joins.{count}
-use Rattle.laws.specs.Over.{length-part}
-use denote.Ref.{now}
-use lib.ListN.{length}
 use mathlib.Core.List.{[]}
-use Prim.Native.Nat.{_+_, _-_, _≤_}
+use Prim.Native.Nat.{_-_}
 use native.Mathlib.Omega.{arith}
+use Rattle.value_fields.proofs.TurnLaws.{last-small, met-front, met-last, met-less}
+use Rattle.value_fields.proofs.WriteLaws.{Writing, writing-none, writing-inside, writing-room, writing-fits, writing-more, writing-end}
 use Rattle.value_fields.proofs.put_elements.Statement.{statement}
 use Rattle.value_fields.proofs.put_elements.Tie as tie
 
@@ -23,70 +19,31 @@ sub-leads : tie.Need-sub-leads Inv-loop μ-loop
 sub-leads c = omega (arith, c .arg-end .ensures 0 [])
 
 loop-holds : tie.Need-loop-holds Inv-loop μ-loop
-loop-holds c =
-    let s = c .before .before .before .before in let a = s .args in
-    writing-none (a .base) (now (a .contents)) (now (a .toks)) (now (a .out)) (s .pre) (c .arg-end .ensures)
+loop-holds c = search (needs, writing-none)
 
 last-of-requires : tie.Need-last-of-requires Inv-loop μ-loop
-last-of-requires c κs =
-    let d = c .before .before .before in
-    omega (arith, d .before .before .loop .inv .between .short, d .before .count .ensures, d .if1 .taken)
-
--- the element that is met at this turn, and the room for it
-meets : (c : tie.After-front-of Inv-loop μ-loop) →
-    let d = c .before .before .before .before .before in let l = d .before .before .loop in
-    let a = d .before .before .before .before .before .before .before .args in
-    Met (a .base) (now (a .contents)) (now (a .toks)) (d .before .before .before .arg-end .result - 1) (l .inv .done) (l .n)
-    (c .before .before .before .before .later .result) (c .before .before .before .outcome .result .next) (c .front-of .result) (c .before .last-of .result)
-meets c =
-    let d = c .before .before .before .before .before in let l = d .before .before .loop in
-    let s = d .before .before .before .before .before .before .before in let a = s .args in
-    met (a .base) (now (a .contents)) (now (a .toks)) (l .inv .between) (d .before .count .ensures) (s .pre .value) (d .if1 .taken) (c .before .before .before .before .later .ensures)
-    (c .before .before .before .outcome .ensures) (c .before .before .sep-kind .ensures) (c .front-of .ensures) (c .before .last-of .ensures)
-
-room : (c : tie.After-front-of Inv-loop μ-loop) →
-    let d = c .before .before .before .before .before in let l = d .before .before .loop in
-    let a = d .before .before .before .before .before .before .before .args in
-    l .k + length (elementBytes (a .base) (now (a .contents)) (now (a .toks)) (c .before .before .before .before .later .result) (c .front-of .result)
-    (d .before .before .before .arg-end .result - 1) (c .before .last-of .result)) ≤ length (l .out)
-room c =
-    let d = c .before .before .before .before .before in let l = d .before .before .loop in
-    let s = d .before .before .before .before .before .before .before in let a = s .args in
-    writing-room (a .base) (now (a .contents)) (now (a .toks)) (now (a .out)) (s .pre) (l .inv) (meets c)
+last-of-requires c κs = search (needs, last-small)
 
 sub-put-element : tie.Need-sub-put-element Inv-loop μ-loop
-sub-put-element c = omega (arith, room c)
-
-part-put-element-start : tie.Need-part-put-element-start Inv-loop μ-loop
-part-put-element-start c = omega (arith, room c)
+sub-put-element c = search (needs, writing-inside)
 
 put-element-requires : tie.Need-put-element-requires Inv-loop μ-loop
-put-element-requires c κs =
-    let m = meets (c .before) in let l = c .before .before .before .before .before .before .before .before .loop in
-    (m .front, m .last, omega (arith, length-part (l .out) (l .k), room (c .before)))
+put-element-requires c κs = (search (needs, met-front), search (needs, met-last), search (needs, writing-room))
 
 add-k : tie.Need-add-k Inv-loop μ-loop
-add-k c =
-    let r = c .before .before .before .before in
-    omega (arith, c .before .before .put-element .ensures .0, room r, c .before .before .before .before .before .before .before .before .before .before .before .loop .inv .long, c .before .before .before .before .before .before .before .before .before .before .before .before .before .before .before .before .good .0 .0)
+add-k c = search (needs, writing-fits)
 
 loop-less : tie.Need-loop-less Inv-loop μ-loop
-loop-less c =
-    let r = c .before .before .before .before in let d = c .before .before .before .before .before .before .before .before .before in
-    omega (arith, meets r .on, d .before .count .ensures, d .if1 .taken)
+loop-less c = search (needs, met-less)
 
 loop-again : tie.Need-loop-again Inv-loop μ-loop
-loop-again c =
-    let s = c .before .before .before .before .before .before .before .before .before .before .before .before .before .before .before .before in let a = s .args in
-    writing-more (a .base) (now (a .contents)) (now (a .toks)) (now (a .out)) (s .pre) (c .before .before .before .before .before .before .before .before .before .before .before .loop .inv) (meets (c .before .before .before .before)) (c .before .before .put-element .ensures .0) (c .before .before .put-element .ensures .1)
+loop-again c = search (needs, writing-more)
 
 same-length : tie.Need-same-length Inv-loop μ-loop
 same-length c = c .before .before .loop .inv .long
 
 returns : tie.Need-returns Inv-loop μ-loop
-returns c =
-    let s = c .before .before .before .before .before .before .before in let a = s .args in
-    writing-end (a .base) (now (a .contents)) (now (a .toks)) (now (a .out)) (s .pre) (c .before .before .loop .inv) (c .before .count .ensures) (c .if1 .left)
+returns c = search (needs, writing-end)
 
 pub put-elements-spec : {M : Type 1} → statement M
 put-elements-spec =
@@ -104,7 +61,7 @@ put-elements-spec =
     last-of-requires
     (λ c κs. search needs)
     sub-put-element
-    part-put-element-start
+    sub-put-element
     (λ c. search needs)
     put-element-requires
     add-k

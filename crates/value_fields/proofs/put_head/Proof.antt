@@ -6,16 +6,16 @@ use Rattle.value_fields.proofs.put_head.Statement.{statement}
 use Rattle.value_fields.proofs.put_head.Tie as tie
 
 put-field-requires : tie.Need-put-field-requires
-put-field-requires c κs = (omega arith, omega (arith, rw (c .before .before .before .x .given .1) at (c .before .before .before .before .before .before .pre)))
+put-field-requires c κs = let s : tie.Start = search in (omega arith, omega (arith, rw (c .before .before .before .x .given .1) at (s .pre)))
 
 put-range-requires : tie.Need-put-range-requires
-put-range-requires c κs = omega (arith, rw (c .before .before .x2 .given .1) at (c .before .before .before .before .before .pre))
+put-range-requires c κs = let s : tie.Start = search in omega (arith, rw (c .before .before .x2 .given .1) at (s .pre))
 
 returns : tie.Need-returns
-returns c = rw (c .before .before .before .before .before .before .x .given .1) (c .before .before .put-field .ensures)
+returns c = let x : tie.After-x = search in rw (x .x .given .1) (c .before .before .put-field .ensures)
 
 returns-2 : tie.Need-returns-2
-returns-2 c = rw (c .before .before .before .before .before .x2 .given .1) (refl, c .before .before .put-range .ensures)
+returns-2 c = let x : tie.After-x2 = search in rw (x .x2 .given .1) (refl, c .before .before .put-range .ensures)
 
 returns-3 : tie.Need-returns-3
 returns-3 c = rw (c .before .x3 .given .1) (refl, refl)

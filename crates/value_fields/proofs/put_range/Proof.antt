@@ -11,9 +11,10 @@ use Rattle.value_fields.proofs.put_range.Tie as tie
 
 returns : tie.Need-returns
 returns c =
-    let number = c .before .before .before .before .before .before in
-    let head = number .before .before .before .before in
-    let a = head .before .before .before .args in
+    let number : tie.After-put-number = search in
+    let head : tie.After-put-header = search in
+    let start : tie.Start = search in
+    let a = start .args in
     let upper = back-over (6 ∷ twoBytes 8) (fourBytes (a .upper)) (now (a .out)) (head .put-header .ensures) refl (number .put-number .ensures) in
     back-over ((6 ∷ twoBytes 8) ++ fourBytes (a .upper)) (fourBytes (a .inc)) (now (a .out)) upper refl (c .before .before .put-number2 .ensures)
 

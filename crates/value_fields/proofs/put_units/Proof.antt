@@ -1,9 +1,7 @@
 -- `put_units` meets its contract: at every turn the units done stand over the start of the buffer.
 use borrow.Author.Needs.{needs}
-use Rattle.value_fields.proofs.WriteLaws.{Putting, putting-none, putting-room, putting-more, putting-all}
-use Rattle.laws.specs.Over.{length-part}
 use Prim.Native.Nat.{_-_}
-use native.Mathlib.Omega.{arith}
+use Rattle.value_fields.proofs.WriteLaws.{Putting, putting-none, putting-inside, putting-room, putting-fits, putting-more, putting-len, putting-over}
 use Rattle.value_fields.proofs.put_units.Statement.{statement}
 use Rattle.value_fields.proofs.put_units.Tie as tie
 
@@ -17,31 +15,22 @@ loop-holds : tie.Need-loop-holds Inv-loop μ-loop
 loop-holds c = search (needs, putting-none)
 
 sub-put-unit : tie.Need-sub-put-unit Inv-loop μ-loop
-sub-put-unit c = omega (arith, putting-room (c .before .loop .inv) (c .before .before .before .before .before .pre .1) (c .loop-test .taken))
-
-part-put-unit-start : tie.Need-part-put-unit-start Inv-loop μ-loop
-part-put-unit-start c = omega (arith, putting-room (c .before .loop .inv) (c .before .before .before .before .before .pre .1) (c .loop-test .taken))
+sub-put-unit c = search (needs, putting-inside)
 
 put-unit-requires : tie.Need-put-unit-requires Inv-loop μ-loop
-put-unit-requires c κs =
-    let l = c .before .before .loop in let s = c .before .before .before .before .before .before in
-    (omega (arith, s .pre .0, c .before .loop-test .taken), omega (arith, length-part (l .out) (l .k), putting-room (l .inv) (s .pre .1) (c .before .loop-test .taken)))
+put-unit-requires c κs = search (needs, putting-room)
 
 add-k : tie.Need-add-k Inv-loop μ-loop
-add-k c =
-    let l = c .before .before .before .before .before .loop in let s = c .before .before .before .before .before .before .before .before .before in
-    omega (arith, c .before .before .put-unit .ensures .0, putting-room (l .inv) (s .pre .1) (c .before .before .before .before .loop-test .taken), l .inv .long, s .good .0 .0)
+add-k c = search (needs, putting-fits)
 
 loop-again : tie.Need-loop-again Inv-loop μ-loop
-loop-again c =
-    let l = c .before .before .before .before .before .loop in let s = c .before .before .before .before .before .before .before .before .before in
-    putting-more (l .inv) (s .pre .1) (c .before .before .before .before .loop-test .taken) (c .before .before .put-unit .ensures .0) (c .before .before .put-unit .ensures .1)
+loop-again c = search (needs, putting-more)
 
 same-length : tie.Need-same-length Inv-loop μ-loop
 same-length c = c .before .loop .inv .long
 
 returns : tie.Need-returns Inv-loop μ-loop
-returns c = putting-all (c .before .loop .inv) (c .before .before .before .before .before .pre .1) (c .loop-test .left)
+returns c = search (needs, putting-len, putting-over)
 
 pub put-units-spec : {M : Type 1} → statement M
 put-units-spec =
@@ -51,7 +40,7 @@ put-units-spec =
     μ-loop
     loop-holds
     sub-put-unit
-    part-put-unit-start
+    sub-put-unit
     (λ c. search needs)
     (λ c. search needs)
     put-unit-requires

@@ -1,14 +1,11 @@
 -- `value_len` meets its contract: a value of one unit is a single element's field and the unit's.
 use borrow.Author.Needs.{needs}
-use Rattle.value_fields.proofs.BytesLaws.{unit-small}
-use Rattle.value_fields.proofs.MeasureLaws.{one-len}
-use denote.Ref.{now}
-use native.Mathlib.Omega.{arith}
+use Rattle.value_fields.proofs.MeasureLaws.{one-fits, one-len}
 use Rattle.value_fields.proofs.value_len.Statement.{statement}
 use Rattle.value_fields.proofs.value_len.Tie as tie
 
 add-result : tie.Need-add-result
-add-result c = let a = c .before .before .before .before .args in omega (arith, c .unit-len .ensures, unit-small (a .base) (now (a .contents)) (now (a .toks)) 0)
+add-result c = search (needs, one-fits)
 
 returns : tie.Need-returns
 returns c = search (needs, one-len)

@@ -6,13 +6,13 @@ use Rattle.console_figures.proofs.letters.keep_base.Statement.{statemen
 use Rattle.console_figures.proofs.letters.keep_base.Tie as tie
 
 returns : tie.Need-returns
-returns c = keeps-other (c .before .before .before .before .args .bases .now) (c .before .before .before .before .args .rec .now) (c .before .before .before .before .args .at) (c .before .before .before .before .args .n) (c .if1 .taken)
+returns c = let s : tie.Start = search in keeps-other (s .args .bases .now) (s .args .rec .now) (s .args .at) (s .args .n) (c .if1 .taken)
 
 returns-2 : tie.Need-returns-2
-returns-2 c = keeps-full (c .before .before .before .before .before .args .bases .now) (c .before .before .before .before .before .args .rec .now) (c .before .before .before .before .before .args .at) (c .before .before .before .before .before .args .n) (c .if2 .taken)
+returns-2 c = let s : tie.Start = search in keeps-full (s .args .bases .now) (s .args .rec .now) (s .args .at) (s .args .n) (c .if2 .taken)
 
 returns-3 : tie.Need-returns-3
-returns-3 c = keeps-one (c .before .before .before .before .before .before .args .bases .now) (c .before .before .before .before .before .before .args .rec .now) (c .before .before .before .before .before .before .args .at) (c .before .before .before .before .before .before .args .n) (c .byte .ensures) (c .before .before .if1 .left) (c .before .if2 .left)
+returns-3 c = let s : tie.Start = search in keeps-one (s .args .bases .now) (s .args .rec .now) (s .args .at) (s .args .n) (c .byte .ensures) (c .before .before .if1 .left) (c .before .if2 .left)
 
 pub keep-base-spec : {M : Type 1} → statement M
 keep-base-spec =

@@ -1,9 +1,10 @@
 -- `console_figures::numbers::is_blank` meets its contract: the range is computed byte by byte, outside it the space alone is left.
 -- Assumes nothing.
-use mathlib.Core.Path.{refl, sym}
+use borrow.Author.Needs.{needs}
+use mathlib.Core.Path.{refl}
 use mathlib.Core.Logic.{⊎-elim}
-use native.Mathlib.Omega.{arith}
-use Rattle.laws.specs.Ranges.{in-range}
+use mathlib.Core.Bool.{true}
+use Rattle.laws.specs.Ranges.{told-in-range}
 use Rattle.console_figures.specs.Numbers.{isBlank}
 use Rattle.console_figures.proofs.NumbersLaws.{blank-below, blank-above}
 use Rattle.console_figures.proofs.numbers.is_blank.Statement.{statement}
@@ -11,7 +12,7 @@ use Rattle.console_figures.proofs.numbers.is_blank.Tie as tie
 
 returns : tie.Need-returns
 unfolding isBlank
-returns c = sym (in-range isBlank 9 5 refl (c .before .before .args .b) (omega arith) (omega arith))
+returns c = search (needs, told-in-range true isBlank 9 5 refl)
 
 returns-2 : tie.Need-returns-2
 returns-2 c =

@@ -19,13 +19,15 @@ returns-3 c = search (needs, pair-second)
 
 mul-t7 : tie.Need-mul-t7
 mul-t7 c =
-    let a = c .before .before .before .before .before .before .before .before .args in
+    let s : tie.Start = search in
+    let a = s .args in
     let h = hex-most (getD (now (a .text)) (a .at) 0) in
     search (needs, h)
 
 add-t11 : tie.Need-add-t11
 add-t11 c =
-    let a = c .before .before .before .before .before .before .before .before .args in
+    let s : tie.Start = search in
+    let a = s .args in
     let h = hex-most (getD (now (a .text)) (a .at) 0) in
     let l = hex-most (getD (now (a .text)) (a .at + 1) 0) in
     search (needs, h, l)
