@@ -51,7 +51,9 @@ class Session:
         self.expect("a terminal that echoes nothing and waits for no Return", settings(self.there)[LFLAG] & (termios.ECHO | termios.ICANON), 0)
 
     def own_terminal(self):
-        """Makes the terminal the one that the console's signals come from."""
+        """Makes the terminal the one that the console's signals come from. What is started in the background ignores two of them, and hands that on."""
+        for ignored in (signal.SIGINT, signal.SIGQUIT):
+            signal.signal(ignored, signal.SIG_DFL)
         os.setsid()
         fcntl.ioctl(self.there, termios.TIOCSCTTY, 0)
 
