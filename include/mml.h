@@ -86,8 +86,10 @@
  *      9   identifier      its characters: a letter, then letters and digits
  *     10   symbolic name   its characters: letters, digits, + # %
  *     11   string          its bytes, a doubled quotation mark once; perhaps empty
+ *     12   orders          the number of the record's orders (4 bytes), 1 to 65,535
  *
- * They stand in the order of the text:
+ * The field orders stands first, in 7 bytes, and nowhere else. The others stand behind it in the
+ * order of the text:
  *
  *     command  1 to 3 code pieces, then up to 8 blocks
  *     block    the field block, then its places; at most 32 places in all blocks together; in a
@@ -105,6 +107,10 @@
  * is not below it, and the increment is at least 1. The range names lower, lower + increment
  * and so on, none above upper. In an order every element is single, and every value has one.
  *
+ * The number of orders is the product of the values' numbers of arguments; an omitted place
+ * counts one. A record with another number, or without this field, as version 1 wrote them, is
+ * not well formed. An order has the number 1.
+ *
  * A word has at most 32 characters, a string at most 80 bytes, a value at most 4,096
  * arguments, a command at most 65,535 orders. The letters of the places (tag 3), in their
  * order, are the record's own base letters: with them the text that mml_print gives is read
@@ -112,7 +118,7 @@
  *
  * A record that comes from elsewhere may be anything. Every call judges all of it first and
  * answers MML_RECORD where it is not well formed; where mml_count succeeds, the tags, lengths
- * and contents are as said here.
+ * and contents are as said here, and its answer is the number in the first field.
  */
 
 #ifndef MML_H
@@ -126,14 +132,14 @@ extern "C" {
 #endif
 
 /* The version of the interface. */
-#define MML_VERSION "1.3"
-#define MML_VERSION_MAJOR 1
-#define MML_VERSION_MINOR 3
+#define MML_VERSION "2.0"
+#define MML_VERSION_MAJOR 2
+#define MML_VERSION_MINOR 0
 
 /* The longest text that is read or printed, and the longest line that is kept, in bytes. */
 #define MML_TEXT_MAX 1024u
 
-/* No record is longer, in bytes. */
+/* No record is longer, in bytes; the longest has 62,372. */
 #define MML_RECORD_MAX 65536u
 
 /* The most base letters, and so the most places of a command. */
@@ -247,7 +253,8 @@ enum {
     MML_TAG_KEYED = 8,
     MML_TAG_IDENTIFIER = 9,
     MML_TAG_SYMBOLIC_NAME = 10,
-    MML_TAG_STRING = 11
+    MML_TAG_STRING = 11,
+    MML_TAG_ORDERS = 12
 };
 
 /*
@@ -287,13 +294,17 @@ uint64_t mml_print(const uint8_t *record, size_t record_len,
                    uint8_t *out, size_t out_len);
 
 /*
- * Gives order number k of a record, counted from 0, as a record. The last place runs fastest.
+ * Gives order number k of a record, counted from 0, as a record of one order. The last place
+ * runs fastest.
  * The cost does not depend on how many arguments a range names.
  */
 uint64_t mml_order(const uint8_t *record, size_t record_len, uint64_t k,
                    uint8_t *out, size_t out_len);
 
-/* Gives the number of orders of a record, 1 to 65,535. Writes nothing. */
+/*
+ * Gives the number of orders of a record, 1 to 65,535: the record is judged as in every other
+ * call, and the answer is the number in its first field. Writes nothing.
+ */
 uint64_t mml_count(const uint8_t *record, size_t record_len);
 
 #ifdef __cplusplus

@@ -29,7 +29,7 @@ static uint8_t text[MML_TEXT_MAX];
 
 static const char *const names[] = {
     "none", "code piece", "block", "place", "name piece", "single", "range",
-    "numeral", "keyed", "identifier", "symbolic", "string",
+    "numeral", "keyed", "identifier", "symbolic", "string", "orders",
 };
 
 /* The content's length: two bytes, the high one first. */
@@ -65,6 +65,9 @@ static void show_field(unsigned tag, const uint8_t *content, size_t length)
     }
     printf("%-10s", names[tag]);
     switch (tag) {
+    case MML_TAG_ORDERS:
+        printf(" %" PRIu32, number_at(content));
+        break;
     case MML_TAG_RANGE:
         printf(" to %" PRIu32 " by %" PRIu32, number_at(content + UPPER), number_at(content + INCREMENT));
         break;

@@ -13,6 +13,9 @@
 
 enum { SPARE = 16, FILLING = 0x3C };
 
+/* The bytes of the field orders, which a record begins with. */
+enum { ORDERS_LEN = 7 };
+
 static const struct {
     const char *text;
     const char *bases;
@@ -221,7 +224,7 @@ static void try_record(const uint8_t *bytes, size_t len)
     try_call((struct call){ ORDER, bytes, NULL, len, 0, MML_VALUE(count) });
 }
 
-/* Tries a command and, if it is accepted, its record, also cut short. */
+/* Tries a command and, if it is accepted, its record, also cut short at its end and at its start. */
 static void try_command(const char *text, const char *bases)
 {
     struct call read = { READ, (const uint8_t *)text, (const uint8_t *)bases, strlen(text), strlen(bases), 0 };
@@ -233,6 +236,7 @@ static void try_command(const char *text, const char *bases)
     made(&read, read.first, read.second, record, sizeof record);
     try_record(record, len);
     try_record(record, len - 1);
+    try_record(record + ORDERS_LEN, len - ORDERS_LEN);
 }
 
 /* The key does to the keeper at this position what it did to a plain one. */
@@ -290,7 +294,7 @@ static void is(uint64_t answer, unsigned number, uint32_t value)
 static void try_null(void)
 {
     const uint8_t *text = (const uint8_t *)"A;", *bases = (const uint8_t *)"D";
-    const uint8_t one[] = { MML_TAG_CODE_PIECE, 0, 1, 'A' };
+    const uint8_t one[] = { MML_TAG_ORDERS, 0, 4, 0, 0, 0, 1, MML_TAG_CODE_PIECE, 0, 1, 'A' };
     uint8_t out[sizeof one];
 
     is(mml_read(NULL, 0, bases, 1, out, sizeof out), MML_NO_END, 0);

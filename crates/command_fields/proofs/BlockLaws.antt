@@ -15,8 +15,9 @@ use Rattle.laws.specs.Cases.{byBool}
 use Rattle.laws.specs.Over.{over, part, back, length-part}
 use Rattle.rules.specs.Characters.{byte}
 use Rattle.rules.specs.Commands.{Name, placeName, Command, seg, split, cut, cutAt}
+use Rattle.rules.specs.Orders.{count}
 use Rattle.rules.specs.Reading.{kindOf, placedBlock, Placed, unplaced, PlacedBlock, blockOf, blockSize, readPlace, readPlaces, readBlock, readBlocks, readSegs, readCut}
-use Rattle.rules.specs.Records.{Field, field, fieldBytes, bytesOf, many, placeFields, blockFields, encode}
+use Rattle.rules.specs.Records.{Field, field, fieldBytes, bytesOf, many, placeFields, blockFields, headBytes, headSize, bodyBytes}
 use Rattle.rules.specs.Refusals.{ok}
 use Rattle.rules.specs.Tokens.{comma, colon, semi}
 use Rattle.rules.specs.Units.{isIdentifier}
@@ -255,7 +256,7 @@ record SegmentsAre (ts cs ls : List ℕ) (k e : ℕ) (c : Command) : Type 0 wher
   q : ℕ
   bs : List PlacedBlock
   blocks : readBlocks (basesIn ls) 0 0 q (partsFrom colon e cs ts (k + 1)) ≡ ok bs
-  bytes : encode c ≡ wordBytes 1 (wordsIn true cs (take k ts)) ++ blocksBytes bs
+  bytes : bodyBytes c ≡ wordBytes 1 (wordsIn true cs (take k ts)) ++ blocksBytes bs
 
 module _ (ts cs ls : List ℕ) {k : ℕ} (f : k ≡ 0 + before 7 (drop 0 ts)) where
   segments-are : (e : ℕ) (c : Command) → readSegs (basesIn ls) (split colon e (tokensIn cs ts)) ≡ ok c → SegmentsAre ts cs ls k e c
@@ -265,7 +266,7 @@ module _ (ts cs ls : List ℕ) {k : ℕ} (f : k ≡ 0 + before 7 (drop 0 ts)) wh
       let us = tokensIn cs (take k ts) in
       let r = segs-read (basesIn ls) us p (partsFrom colon e cs ts (k + 1)) c (rw (← parts-all colon e cs ts, parts-next colon e cs ts 0 (omega arith) f refl, z) at h) in
       let codes : List Field = map (λ w. field 1 w) (r .code) in
-      let own : encode c ≡ bytesOf (codes ++ many blockFields (map blockOf (r .xs))) = ap encode (sym (r .is)) in
+      let own : bodyBytes c ≡ bytesOf (codes ++ many blockFields (map blockOf (r .xs))) = ap bodyBytes (sym (r .is)) in
       record {
         q = p;
         bs = r .xs;
@@ -325,11 +326,22 @@ module _ (ts cs ls : List ℕ) {k : ℕ} (f : k ≡ 0 + before 9 (drop 0 ts)) wh
       go [] g = g
       go (u ∷ us) g = ok≢bad g
 
-  pub command-inside : (room : ℕ) → CommandFits ts cs ls room → k ≤ length ts
-  command-inside room w = (whole-is (w .end) (w .c) (w .is)) .0
+  pub command-inside : (o room : ℕ) → CommandFits ts cs ls o room → k ≤ length ts
+  command-inside o room w = (whole-is (w .end) (w .c) (w .is)) .0
 
-  pub command-segments : (room : ℕ) → CommandFits ts cs ls room → SegmentsFit (take k ts) cs ls room
-  command-segments room w = record { end = placeIn (getD ts k 0); c = w .c; is = (whole-is (w .end) (w .c) (w .is)) .1; fits = w .fits }
+  module _ (o : ℕ) (old : List ℕ) {xs : List ℕ} (w : CommandFits ts cs ls o (length old)) (v : xs ≡ over (headBytes o) old) where
+    pub command-segments : SegmentsFit (take k ts) cs ls (length (part xs headSize))
+    command-segments =
+        record {
+          end = placeIn (getD ts k 0);
+          c = w .c;
+          is = (whole-is (w .end) (w .c) (w .is)) .1;
+          fits = room-behind (headBytes o) (bodyBytes (w .c)) old (refl, v) (w .fits);
+        }
 
-  pub command-put : {r : ℕ} {old new : List ℕ} → PutSegments (take k ts) cs ls r old new → PutCommand ts cs ls r old new
-  command-put p n c h = p (placeIn (getD ts k 0)) c ((whole-is n c h) .1)
+    -- the command that is read is one, so its orders are those that were given
+    pub command-put : {r : ℕ} {ys : List ℕ} → PutSegments (take k ts) cs ls r (part xs headSize) ys → PutCommand ts cs ls (headSize + r) old (back xs headSize ys)
+    command-put p n c h =
+        let is = (whole-is n c h) .1 in
+        let own : o ≡ count c = w .counted ∙ ap count (ok-inj (sym ((whole-is (w .end) (w .c) (w .is)) .1) ∙ is)) in
+        rw (← own) (chained (headBytes o) (bodyBytes c) old (refl, v) (p (placeIn (getD ts k 0)) c is))

@@ -7,8 +7,9 @@ use mathlib.Core.List.{List, [], map, _++_}
 use lib.ListN.{length}
 use Rattle.laws.specs.Over.{over}
 use Rattle.rules.specs.Commands.{Name, Place, place, Command, seg, split, cutAt}
+use Rattle.rules.specs.Orders.{count}
 use Rattle.rules.specs.Reading.{Placed, unplaced, PlacedBlock, blockOf, blockSize, readNamed, readPlace, readPlaces, readBlock, readBlocks, readSegs, readCut}
-use Rattle.rules.specs.Records.{Field, field, bytesOf, many, elementFields, placeFields, blockFields, encode}
+use Rattle.rules.specs.Records.{Field, field, bytesOf, many, elementFields, placeFields, blockFields, bodyBytes, encode}
 use Rattle.rules.specs.Refusals.{ok}
 use Rattle.rules.specs.Tokens.{comma, colon, equals, semi}
 use Rattle.rules.specs.Units.{Base, letter}
@@ -109,21 +110,22 @@ abbrev pub PutBlocks : List ℕ → List ℕ → List ℕ → ℕ → ℕ → Li
 PutBlocks ts cs ls i r old new =
     (e q : ℕ) (bs : List PlacedBlock) → readBlocks (basesIn ls) 0 0 q (partsFrom colon e cs ts i) ≡ ok bs → Wrote (blocksBytes bs) r old new
 
--- ---- the command, without its `;` and with it
+-- ---- the command, without its head and its `;`, and with them
 
 pub record SegmentsFit (ts cs ls : List ℕ) (room : ℕ) : Type 0 where
   pub end : ℕ
   pub c : Command
   pub is : readSegs (basesIn ls) (split colon end (tokensIn cs ts)) ≡ ok c
-  pub fits : length (encode c) ≤ room
+  pub fits : length (bodyBytes c) ≤ room
 
 abbrev pub PutSegments : List ℕ → List ℕ → List ℕ → ℕ → List ℕ → List ℕ → Type 0
-PutSegments ts cs ls r old new = (e : ℕ) (c : Command) → readSegs (basesIn ls) (split colon e (tokensIn cs ts)) ≡ ok c → Wrote (encode c) r old new
+PutSegments ts cs ls r old new = (e : ℕ) (c : Command) → readSegs (basesIn ls) (split colon e (tokensIn cs ts)) ≡ ok c → Wrote (bodyBytes c) r old new
 
-pub record CommandFits (ts cs ls : List ℕ) (room : ℕ) : Type 0 where
+pub record CommandFits (ts cs ls : List ℕ) (orders room : ℕ) : Type 0 where
   pub end : ℕ
   pub c : Command
   pub is : readCut (basesIn ls) end (cutAt semi (tokensIn cs ts)) ≡ ok c
+  pub counted : orders ≡ count c
   pub fits : length (encode c) ≤ room
 
 abbrev pub PutCommand : List ℕ → List ℕ → List ℕ → ℕ → List ℕ → List ℕ → Type 0

@@ -1,8 +1,10 @@
-// The record of a command that is right, written from its tokens: code, block by block, place by place. Each writer is lent the buffer from
-// its start position, and says every byte of it.
+// The record of a command that is right, written from its tokens: head, code, block by block, place by place. Each writer is lent the buffer
+// from its start position, and says every byte of it.
 use fields;
 use read_bases;
 use read_command;
+use record_head;
+use record_head::HEAD;
 use token_table;
 use value_fields;
 ghost use Prim.Native.Nat.{_+_, _≤_};
@@ -170,11 +172,18 @@ fn put_segments(out: &mut [u8], toks: &[u64], contents: &[u8], bases: &[u8]) -> 
     p + put_blocks(&mut out[p..], toks, contents, bases, k + 1)
 }
 
-// The record of a command. Returns how many bytes it wrote.
-pub fn put_command(out: &mut [u8], toks: &[u64], contents: &[u8], bases: &[u8]) -> usize
-    requires { ⌜ CommandFits (now toks) (now contents) (now bases) (length (now out)) ⌝ }
+// The record of a command with so many orders: its head, and the segments behind it. Returns how many bytes it wrote.
+pub fn put_command(
+    out: &mut [u8],
+    toks: &[u64],
+    contents: &[u8],
+    bases: &[u8],
+    orders: u32,
+) -> usize
+    requires { ⌜ CommandFits (now toks) (now contents) (now bases) orders (length (now out)) ⌝ }
     ensures { λ r. ⌜ PutCommand (now (toks .entry)) (now (contents .entry)) (now (bases .entry)) r (now (out .entry)) (now (out .exit)) ⌝ }
 {
     let k = token_table::find(toks, 0, token_table::SEMICOLON);
-    put_segments(out, &toks[..k], contents, bases)
+    record_head::put_head(out, orders);
+    HEAD + put_segments(&mut out[HEAD..], &toks[..k], contents, bases)
 }

@@ -11,7 +11,8 @@ use lib.Seq.{getD-append-add}
 use Rattle.laws.specs.Cases.{byBool}
 use Rattle.rules.specs.Units.{letter, Unit, num, keyed, identifier, symbolic, text}
 use Rattle.rules.specs.Commands.{Element, single, range, Place, place, Block, block, Command, command, placeBase}
-use Rattle.rules.specs.Records.{placeTag, Field, field, unitField, elementFields, many, placeFields, blockFields, fieldsOf, fieldBytes, bytesOf, encode, basesOf, bases}
+use Rattle.rules.specs.Records.{placeTag, countTag, Field, field, fourBytes, unitField, elementFields, many, placeFields, blockFields, fieldsOf, fieldBytes, bytesOf, encode, basesOf, bases}
+use Rattle.rules.specs.Orders.{count}
 use Rattle.rules.specs.Refusals.{ok}
 use Rattle.rules.specs.WellFormed.{recordOf}
 use Rattle.rules.proofs.EncodeDecode.{record-is}
@@ -114,6 +115,13 @@ in-blocks (block d ps ∷ bs) = rw (map-append letter (map placeBase ps) (basesO
 in-command : (c : Command) → Finds (fieldsOf c) (bases c)
 in-command (command ws bs) = then (in-words 1 refl ws) (in-blocks bs)
 
+-- a head is a field as any other that is no place's
+abbrev recordFields : Command → List Field
+recordFields c = field countTag (fourBytes (count c)) ∷ fieldsOf c
+
+in-record : (c : Command) → Finds (recordFields c) (bases c)
+in-record c = then (other countTag refl) (in-command c)
+
 -- a field has a byte at least
 fields-most : (fs : List Field) → length fs ≤ length (bytesOf fs)
 fields-most [] = omega arith
@@ -121,12 +129,12 @@ fields-most (field t w ∷ fs) = simp length-append (omega (arith, fields-most f
 
 pub own-letters : (c : Command) → lettersOf (encode c) ≡ bases c
 own-letters c =
-    let fs = fieldsOf c in
+    let fs = recordFields c in
     let k = length (encode c) - length fs in
     let steps : length (encode c) ≡ length fs + k = omega (arith, fields-most fs) in
     ap (λ (m : ℕ). lettersFrom m (encode c) 0) steps
     ∙ ap (λ (gs : List Field). lettersFrom (length fs + k) (bytesOf gs) 0) (sym (append-nil fs))
-    ∙ in-command c .found k []
+    ∙ in-record c .found k []
     ∙ ap (λ (w : List ℕ). bases c ++ w) (from-end k [] 0 (omega arith))
     ∙ append-nil (bases c)
 

@@ -4,3 +4,4 @@ pub mod PlacesLaws
 pub mod BlocksLaws
 pub mod PlacesBytes
 pub mod RecordBytes
+pub mod HeadBytes

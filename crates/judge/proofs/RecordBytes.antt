@@ -16,25 +16,23 @@ use Rattle.rules.specs.Refusals.{ok, bad, notWellFormed, moreOfCode, mostBlocks
 use Rattle.rules.specs.Characters.{byte}
 use Rattle.rules.specs.Units.{isIdentifier}
 use Rattle.rules.specs.Commands.{Place, placeCount, mult, Block, block, placesOf, allPlaces, Command, command}
-use Rattle.rules.specs.Records.{codeTag, blockTag, placeTag, Field, field, placeFields, blockFields, many, fieldBytes, bytesOf, encode, decode, kindOfByte}
-use Rattle.rules.specs.WellFormed.{wfPieces, wfBlock, wellFormed, judged, recordOf}
+use Rattle.rules.specs.Records.{codeTag, blockTag, placeTag, Field, field, placeFields, blockFields, many, fieldBytes, bytesOf, bodyBytes, kindOfByte}
+use Rattle.rules.specs.WellFormed.{wfPieces, wfBlock, wellFormed, bodyOf}
 use Rattle.rules.specs.Orders.{blockCount}
 use Rattle.rules.proofs.CommandBack.{mult-pos, count-all, c-code, c-few, c-blocks, c-places, c-count}
 use Rattle.rules.proofs.Names.{block-of}
-use Rattle.rules.proofs.RecordBound.{record-size}
+use Rattle.rules.proofs.RecordBound.{body-size}
 use Rattle.rules.proofs.ValueBack.{and-both}
-use Rattle.rules.proofs.EncodeDecode.{IsRecord, record-is, record-at}
+use Rattle.rules.proofs.EncodeDecode.{IsBody, body-is, body-at, body-refused}
 use Rattle.rules.proofs.FieldLaws.{bytes-append}
 use Rattle.record_walk.specs.Fields.{fits}
 use Rattle.record_walk.specs.Fronts.{Read, andThen, made, headTag, front}
 use Rattle.record_walk.proofs.FrontLaws.{then-some, made-some, Small, small-behind, cut-is, front-is, front-field, goods, Wrote, several-is, several-all}
 use Rattle.judge_place.specs.Places.{isTag, pieces}
 use Rattle.judge_place.proofs.PieceBytes.{first-name, pieces-is, pieces-back}
-use Rattle.judge.specs.Blocks.{places, kindIn, Before, nextBlock, withBlock, noneBefore, someBlocks, ending, blocks, withBlocks, withCode, recordIn}
+use Rattle.judge.specs.Blocks.{places, kindIn, Before, nextBlock, withBlock, noneBefore, someBlocks, ending, blocks, withBlocks, withCode, bodyIn}
 use Rattle.judge.specs.Judged.{mostTold, IsBlocks, Judges}
 use Rattle.judge.proofs.PlacesBytes.{PlacesWrote, places-is, places-back}
-use Rattle.rules.specs.declared.Answer.the-variants.{Done, Refused}
-use Rattle.rules.specs.Answers.{Counts, counting}
 use Rattle.record_walk.specs.Spans.{size, blockSpans, spansOf}
 use Rattle.judge_place.specs.Judging.{PiecesAre, IsPieces}
 use Rattle.judge_place.specs.declared.Pieces.{Pieces}
@@ -190,7 +188,7 @@ unfolding fits
 code-back ws rest h n = pieces-back codeTag false isIdentifier (λ _. refl) first-name moreOfCode ws rest h n
 
 command-is : (c : List (List ℕ)) (bs : List Block) (r r₁ : List ℕ) → isNil c ≡ false → isNil c || wfPieces isIdentifier moreOfCode c ≡ true → r ≡ bytesOf (map (λ w. field codeTag w) c) ++ r₁
-    → Wrote (isTag blockTag) nextBlock withBlock good blockFields mostBlocks noneBefore r₁ bs [] → IsRecord r (command c bs)
+    → Wrote (isTag blockTag) nextBlock withBlock good blockFields mostBlocks noneBefore r₁ bs [] → IsBody r (command c bs)
 command-is c bs r r₁ n h k w =
     let o : mult (map placeCount (allPlaces bs)) ≤ mostOrders = omega (arith, all-orders 0 1 bs (omega arith) (w .well), count-all bs) in
     record {
@@ -213,9 +211,9 @@ blocks-some : {C : Type 0} (x : List (List ℕ)) (o : Option (List Block)) (c : 
 blocks-some x none c h k = none≢some h
 blocks-some x (some bs) c h k = k bs refl (some-inj h)
 
-pub record-read : (r : List ℕ) (c : Command) → Small r → recordIn r ≡ some c → recordOf r ≡ ok c
-unfolding recordIn blocks
-record-read r c s e =
+pub body-read : (r : List ℕ) (c : Command) → Small r → bodyIn r ≡ some c → bodyOf r ≡ ok c
+unfolding bodyIn blocks
+body-read r c s e =
     code-some (pieces codeTag false (suc moreOfCode) r) c e
     (λ x r₁ q n g. blocks-some x (blocks r₁) c g
     (λ bs k eq. ending-some (someBlocks r₁) bs k
@@ -223,14 +221,14 @@ record-read r c s e =
     let w = code-is r x r₁ s q in
     let s₁ : Small r₁ = small-behind (bytesOf (map (λ y. field codeTag y) x)) r₁ (subst Small (w .1) s) in
     let v = command-is x bs r r₁ n (w .0) (w .1) (several-is (isTag blockTag) nextBlock withBlock good blockFields next-is mostBlocks noneBefore r₁ bs [] s₁ z) in
-    rw (← eq) (record-at r (command x bs) (v .well) (v .bytes)))))
+    rw (← eq) (body-at r (command x bs) (v .well) (v .bytes)))))
 
 blocks-tag : (bs : List Block) → isTag codeTag (headTag (bytesOf (many blockFields bs))) ≡ false
 blocks-tag [] = refl
 blocks-tag (block k ps ∷ bs) = refl
 
-command-back : (x : List (List ℕ)) (bs : List Block) → wellFormed (command x bs) ≡ true → recordIn (encode (command x bs)) ≡ some (command x bs)
-unfolding recordIn blocks
+command-back : (x : List (List ℕ)) (bs : List Block) → wellFormed (command x bs) ≡ true → bodyIn (bodyBytes (command x bs)) ≡ some (command x bs)
+unfolding bodyIn blocks
 command-back [] bs h = absurd (false≢true h)
 command-back (w ∷ ws) bs h =
     let x : List (List ℕ) = w ∷ ws in
@@ -240,36 +238,30 @@ command-back (w ∷ ws) bs h =
     let b : someBlocks (r ++ []) ≡ some (bs, []) = several-all (isTag blockTag) nextBlock withBlock good blockFields ended next-back opens closes bs mostBlocks noneBefore [] g (c-few x bs h) refl refl in
     rw (bytes-append (map (λ y. field codeTag y) x) (many blockFields bs), code-back x r (c-code x bs h) (blocks-tag bs), ← append-nil r, b)
 
-record-back : (r : List ℕ) (c : Command) → recordOf r ≡ ok c → recordIn r ≡ some c
-record-back r (command x bs) e =
-    let v = record-is r (command x bs) e in
-    subst (λ y. recordIn y ≡ some (command x bs)) (v .bytes) (command-back x bs (v .well))
+body-back : (r : List ℕ) (c : Command) → bodyOf r ≡ ok c → bodyIn r ≡ some c
+body-back r (command x bs) e =
+    let v = body-is r (command x bs) e in
+    subst (λ y. bodyIn y ≡ some (command x bs)) (v .bytes) (command-back x bs (v .well))
 
-refused : (r : List ℕ) (o : Option Command) → ((c : Command) → judged r o ≡ ok c → ⊥) → judged r o ≡ bad notWellFormed 0
-refused r none h = refl
-refused r (some c) h = byBool (wellFormed c && eqL (encode c) r) (λ y. absurd (h c (rw y))) (λ y. rw y)
-
--- a record that is longer than any well-formed one is refused with 18
-pub long-refused : (r : List ℕ) → mostTold < length r → recordOf r ≡ bad notWellFormed 0
-unfolding recordOf
+-- what is longer than any well-formed record is refused with 18
+pub long-refused : (r : List ℕ) → mostTold < length r → bodyOf r ≡ bad notWellFormed 0
 long-refused r n =
-    refused r (decode r) (λ c h.
-    let v = record-is r c h in
-    absurd (omega (arith, record-size c (v .well), ap length (v .bytes))))
+    body-refused r (λ c h.
+    let v = body-is r c h in
+    absurd (omega (arith, body-size c (v .well), ap length (v .bytes))))
 
--- where nothing is read the record is refused with 18
-pub record-refused : (r : List ℕ) → recordIn r ≡ none → recordOf r ≡ bad notWellFormed 0
-unfolding recordOf
-record-refused r e = refused r (decode r) (λ c h. none≢some {a = c} (sym e ∙ record-back r c h))
+-- where nothing is read it is refused with 18
+pub nothing-read : (r : List ℕ) → bodyIn r ≡ none → bodyOf r ≡ bad notWellFormed 0
+nothing-read r e = body-refused r (λ c h. none≢some {a = c} (sym e ∙ body-back r c h))
 
 -- ---- the judge's answers are the rules'
 
 abbrev IsCode : List ℕ → Pieces → Type 0
 IsCode rec r = IsPieces codeTag false (suc moreOfCode) rec 0 r
 
-pub code-gone : (rec : List ℕ) {r : Pieces} → r ≡ NoPieces → IsCode rec r → recordOf rec ≡ bad notWellFormed 0
-unfolding recordIn
-code-gone rec e j = record-refused rec (rw (subst (IsCode rec) e j))
+pub code-gone : (rec : List ℕ) {r : Pieces} → r ≡ NoPieces → IsCode rec r → bodyOf rec ≡ bad notWellFormed 0
+unfolding bodyIn
+code-gone rec e j = nothing-read rec (rw (subst (IsCode rec) e j))
 
 module _ (rec : List ℕ) {n k : ℕ} {r : Pieces} (e : r ≡ Are n k) (j : IsCode rec r) where
   g : PiecesAre codeTag false (suc moreOfCode) rec 0 n k
@@ -278,11 +270,11 @@ module _ (rec : List ℕ) {n k : ℕ} {r : Pieces} (e : r ≡ Are n k) (j : IsCo
   pub code-inside : k ≤ length rec
   code-inside = g .inside
 
-  pub code-empty : n ≡ 0 → recordOf rec ≡ bad notWellFormed 0
-  unfolding recordIn
-  code-empty z = record-refused rec (go (g .ws) (sym (g .count) ∙ z) (g .is))
+  pub code-empty : n ≡ 0 → bodyOf rec ≡ bad notWellFormed 0
+  unfolding bodyIn
+  code-empty z = nothing-read rec (go (g .ws) (sym (g .count) ∙ z) (g .is))
     where
-      go : (ws : List (List ℕ)) → length ws ≡ 0 → pieces codeTag false (suc moreOfCode) rec ≡ some (ws, drop k rec) → recordIn rec ≡ none
+      go : (ws : List (List ℕ)) → length ws ≡ 0 → pieces codeTag false (suc moreOfCode) rec ≡ some (ws, drop k rec) → bodyIn rec ≡ none
       go [] l q = rw q
       go (w ∷ ws) l q = absurd (omega arith)
 
@@ -299,27 +291,16 @@ module _ (rec : List ℕ) {n k : ℕ} {r : Pieces} (e : r ≡ Are n k) (j : IsCo
       let w = code-is rec (g .ws) (drop k rec) s (g .is) in
       omega (arith, ap length (w .1), length-append (bytesOf (map (λ x. field codeTag x) (g .ws))) (drop k rec), length-drop k rec, g .inside)
 
-  pub judged-as : Small rec → (n ≡ 0 → ⊥) → (old new : List ℕ) (r : Judged) → IsBlocks rec k old new r → Judges rec old new r
-  unfolding recordIn spansOf
+  pub judged-as : Small rec → (n ≡ 0 → ⊥) → (old new : List ℕ) (r : Judged) → IsBlocks rec k old new r → Judges (bodyOf rec) old new r
+  unfolding bodyIn spansOf
   judged-as s z old new (Good p t) b =
       record {
         tree = command (g .ws) (b .bs);
-        is = record-read rec (command (g .ws) (b .bs)) s (rw (g .is, has-code z, b .is));
+        is = body-read rec (command (g .ws) (b .bs)) s (rw (g .is, has-code z, b .is));
         places = b .places;
         few = b .few;
         total = b .total;
         long = b .long;
         told = λ l. b .told l ∙ ap (λ (x : ℕ). blockSpans x (b .bs)) (code-ends s);
       }
-  judged-as s z old new Bad b = record-refused rec (rw (g .is, has-code z, b))
-
--- ---- count
-
-module _ (rec old new : List ℕ) {r : Judged} where
-  pub counts-good : {n t : ℕ} → r ≡ Good n t → Judges rec old new r → Counts rec (Done t)
-  unfolding counting
-  counts-good e j = let g = subst (Judges rec old new) e j in rw (g .is) (ap Done (g .total))
-
-  pub counts-bad : r ≡ Bad → Judges rec old new r → Counts rec (Refused notWellFormed 0)
-  unfolding counting
-  counts-bad e j = rw (subst (Judges rec old new) e j)
+  judged-as s z old new Bad b = nothing-read rec (rw (g .is, has-code z, b))

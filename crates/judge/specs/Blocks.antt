@@ -1,4 +1,4 @@
--- Blocks and the whole record, read from the front of bytes: each field as document 01's rules read it, and the rules and limits on each met at once.
+-- Blocks and all that stands behind a record's head, read from the front of bytes: each field as document 01's rules read it, and the rules and limits on each met at once.
 use mathlib.Core.Bool.{Bool, false, _&&_, _||_, not}
 use mathlib.Core.List.{List, map}
 use mathlib.Core.Option.{Option, none, some}
@@ -72,7 +72,7 @@ noneBefore = record { places = 0; orders = 1 }
 abbrev pub someBlocks : List ℕ → Read (List Block)
 someBlocks r = several (isTag blockTag) nextBlock withBlock mostBlocks noneBefore r
 
--- ---- the record
+-- ---- all behind the head
 
 -- nothing may stand behind
 abbrev pub ending : {A : Type 0} → Read A → Option A
@@ -91,5 +91,5 @@ abbrev pub withCode : Read (List (List ℕ)) → Option Command
 withCode none = none
 withCode (some x) = pick (isNil (x .0)) none (withBlocks (x .0) (blocks (x .1)))
 
-unfoldable pub recordIn : List ℕ → Option Command
-recordIn r = withCode (pieces codeTag false (suc moreOfCode) r)
+unfoldable pub bodyIn : List ℕ → Option Command
+bodyIn r = withCode (pieces codeTag false (suc moreOfCode) r)

@@ -1,5 +1,5 @@
 -- What the judge's answers say: of places and blocks what was read from the front of the bytes, its numbers, and where it stands; of the whole
--- record the command that it holds, or refusal 18.
+-- record, and of what stands behind its head, the command that is held there, or refusal 18.
 use mathlib.Core.Path.{_≡_}
 use mathlib.Core.Bool.{Bool, true, _||_, not}
 use mathlib.Core.List.{List, [], _∷_, _++_, map}
@@ -8,11 +8,10 @@ use Prim.Native.Nat.{ℕ, _+_, _-_, _*_, _≤_}
 use lib.Dec.{leb, ltb}
 use lib.ListN.{length, take, drop, set}
 use Rattle.laws.specs.Cases.{pick}
-use Rattle.rules.specs.Refusals.{ok, bad, notWellFormed, mostPlaces, mostArguments, mostOrders}
+use Rattle.rules.specs.Refusals.{Res, ok, bad, notWellFormed, mostPlaces, mostArguments, mostOrders}
 use Rattle.rules.specs.Commands.{Place, placeCount, mult, Block, placesOf, allPlaces, Command, command}
 use Rattle.rules.specs.Records.{bytesOf, many, placeFields, blockFields}
 use Rattle.rules.specs.Orders.{blockCount, count}
-use Rattle.rules.specs.WellFormed.{recordOf}
 use Rattle.marks.specs.Marks.{addedIf}
 use Rattle.marks.specs.declared.Marks.{Marks}
 use Rattle.record_walk.specs.Runs.{bytesIn}
@@ -130,15 +129,15 @@ abbrev pub IsBlocks : List ℕ → ℕ → List ℕ → List ℕ → Judged → 
 IsBlocks rec at old new (Good n t) = BlocksAre rec at old new n t
 IsBlocks rec at old new Bad = blocks (drop at rec) ≡ none
 
--- ---- the record
+-- ---- a record, or what stands behind its head
 
 abbrev pub blocksOf : Command → List Block
 blocksOf (command c bs) = bs
 
--- the record of a command with n places and t orders; where the values of its places stand is told in a row that has room
-pub record IsGood (rec old new : List ℕ) (n t : ℕ) : Type 0 where
+-- what the rules find is a command with n places and t orders; where the values of its places stand behind the head is told in a row that has room
+pub record IsGood (found : Res Command) (old new : List ℕ) (n t : ℕ) : Type 0 where
   pub tree : Command
-  pub is : recordOf rec ≡ ok tree
+  pub is : found ≡ ok tree
   pub places : n ≡ length (allPlaces (blocksOf tree))
   pub few : n ≤ mostPlaces
   pub total : t ≡ count tree
@@ -146,6 +145,6 @@ pub record IsGood (rec old new : List ℕ) (n t : ℕ) : Type 0 where
   pub told : rowLength ≤ length old → take (perPlace * n) new ≡ spansOf tree
 
 -- "18 record not well formed (place 0)"
-abbrev pub Judges : List ℕ → List ℕ → List ℕ → Judged → Type 0
-Judges rec old new (Good n t) = IsGood rec old new n t
-Judges rec old new Bad = recordOf rec ≡ bad notWellFormed 0
+abbrev pub Judges : Res Command → List ℕ → List ℕ → Judged → Type 0
+Judges found old new (Good n t) = IsGood found old new n t
+Judges found old new Bad = found ≡ bad notWellFormed 0

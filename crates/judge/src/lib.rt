@@ -1,4 +1,4 @@
-// The judge of a whole record, in one walk: whether it is well formed, where the values of its places stand, the number of orders.
+// The judge of a whole record, in one walk from behind its head: whether it is well formed, where the values of its places stand, the number of orders.
 ghost use mathlib.Core.Path.{_≡_};
 ghost use mathlib.Core.List.{List};
 ghost use Prim.Native.Nat.{_*_, _%_, _<_, _≤_};
@@ -6,6 +6,7 @@ ghost use lib.ListN.{length, drop};
 ghost use Rattle.rules.specs.Refusals.{mostPlaces, mostArguments, mostOrders};
 ghost use Rattle.rules.specs.Commands.{Place};
 ghost use Rattle.rules.specs.Records.{blockTag, placeTag};
+ghost use Rattle.rules.specs.WellFormed.{recordOf, bodyOf};
 ghost use Rattle.rules.specs.Answers.{Counts};
 ghost use Rattle.record_walk.specs.Fronts.{headTag};
 ghost use Rattle.judge.specs.Blocks.{isKind, counted};
@@ -17,7 +18,7 @@ pub const PER_PLACE: usize = 3;
 // The numbers that are told of the places of a command, if any are wanted.
 pub const ROW: usize = PER_PLACE * rules::MOST_PLACES;
 
-// A longer record is none that is well formed, and positions up to this one can be told.
+// What stands behind the head of a well-formed record is no longer, and positions up to this one can be told.
 const MOST_TOLD: usize = 65535;
 
 // The most pieces of a code.
@@ -233,10 +234,11 @@ fn judge_blocks(rec: &[u8], from: usize, row: &mut [u16]) -> Judged
     }
 }
 
-// Whether the bytes are a well-formed record; if so, and if the row is as long as ROW, the numbers of its places stand there, in order.
-pub fn judge(rec: &[u8], row: &mut [u16]) -> Judged
+// Whether a well-formed record has these bytes behind its head; if so, and if the row is as long as ROW, the numbers of its places stand there, in order,
+// positions counted from behind the head.
+fn judge_body(rec: &[u8], row: &mut [u16]) -> Judged
     requires { ⌜ length (now row) % perPlace ≡ 0 ⌝ }
-    ensures { λ r. ⌜ Judges (now (rec .entry)) (now (row .entry)) (now (row .exit)) r ⌝ }
+    ensures { λ r. ⌜ Judges (bodyOf (now (rec .entry))) (now (row .entry)) (now (row .exit)) r ⌝ }
 {
     if MOST_TOLD < rec.len() {
         return Judged::Bad;
@@ -256,7 +258,26 @@ pub fn judge(rec: &[u8], row: &mut [u16]) -> Judged
     judge_blocks(rec, next, row)
 }
 
-// The number of orders of a record.
+// Whether the bytes are a well-formed record: its head, what stands behind it, and whether the head's number is the product that was collected there.
+pub fn judge(rec: &[u8], row: &mut [u16]) -> Judged
+    requires { ⌜ length (now row) % perPlace ≡ 0 ⌝ }
+    ensures { λ r. ⌜ Judges (recordOf (now (rec .entry))) (now (row .entry)) (now (row .exit)) r ⌝ }
+{
+    if record_head::begins(rec) {
+        let Judged::Good { places, total } = judge_body(&rec[record_head::HEAD..], row) else {
+            return Judged::Bad;
+        };
+        if total == record_head::orders(rec) {
+            return Judged::Good {
+                places: places,
+                total: total,
+            };
+        }
+    }
+    Judged::Bad
+}
+
+// The number of orders of a record: that of its head, once the record is judged.
 pub fn count(rec: &[u8]) -> rules::Answer
     ensures { λ r. ⌜ Counts (now (rec .entry)) r ⌝ }
 {

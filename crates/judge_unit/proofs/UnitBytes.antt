@@ -3,7 +3,7 @@ use mathlib.Core.Path.{_≡_, refl, sym, ap, _∙_, subst}
 use mathlib.Core.Bool.{Bool, true, false, false≢true}
 use mathlib.Core.List.{List, [], _∷_, _++_, append-nil}
 use mathlib.Core.Option.{some}
-use Prim.Native.Nat.{ℕ, zero, suc, _+_, _*_, _/_, _%_, _^_, _<_}
+use Prim.Native.Nat.{ℕ, zero, suc, _+_, _/_, _%_}
 use native.Mathlib.Omega.{arith}
 use borrow.Author.Tests.{eqb-true, le-leb}
 use lib.Dec.{leb, eqb}
@@ -12,10 +12,11 @@ use lib.Seq.{drop-cons}
 use Rattle.laws.specs.Cases.{byBool, byOption, some-inj, none≢some, and-l, and-r}
 use Rattle.rules.specs.Refusals.{mostWord}
 use Rattle.rules.specs.Units.{Base, plain, keys, letter, baseOf, Unit, num, keyed, identifier, symbolic, text, isHeldKey, runOf, isIdentifier, isSymbolicName}
-use Rattle.rules.specs.Records.{Field, field, isUnit, fourBytes, unitField, fieldBytes, bytesOf, num4, numOf, unitOf}
+use Rattle.rules.specs.Records.{Field, field, isUnit, unitField, fieldBytes, bytesOf, num4, numOf, unitOf}
 use Rattle.rules.specs.WellFormed.{wfUnit}
 use Rattle.rules.proofs.UnitBack.{base-back}
 use Rattle.rules.proofs.DecodeEncode.{four, value-small}
+use Rattle.rules.proofs.FieldLaws.{four-bytes}
 use Rattle.record_walk.specs.Fields.{fits, wordLength}
 use Rattle.record_walk.specs.Fronts.{andThen, only, made, headTag, fitting, front}
 use Rattle.record_walk.proofs.FrontLaws.{then-some, only-some, made-some, Small, small-behind, small-front, cut-is, front-is, front-field, front-tag}
@@ -31,15 +32,6 @@ listed w i (suc k) = getD w i 0 ∷ listed w (suc i) k
 pub listed-is : (k : ℕ) (w : List ℕ) (i : ℕ) → i + k ≡ length w → drop i w ≡ listed w i k
 listed-is zero w i h = drop-of-length-le w {i = i} (omega arith)
 listed-is (suc k) w i h = drop-cons w i 0 (omega arith) ∙ ap (λ (l : List ℕ). getD w i 0 ∷ l) (listed-is k w (suc i) (omega arith))
-
-pub four-bytes : (a b c d : ℕ) → b < 256 → c < 256 → d < 256 → fourBytes (a * 2 ^ 24 + b * 2 ^ 16 + c * 256 + d) ≡ a ∷ b ∷ c ∷ d ∷ []
-four-bytes a b c d hb hc hd =
-    let v : ℕ = a * 2 ^ 24 + b * 2 ^ 16 + c * 256 + d in
-    let e1 : v / 2 ^ 24 ≡ a = omega arith in
-    let e2 : v / 2 ^ 16 % 256 ≡ b = omega arith in
-    let e3 : v / 256 % 256 ≡ c = omega arith in
-    let e4 : v % 256 ≡ d = omega arith in
-    rw (e1, e2, e3, e4)
 
 -- ---- a unit's field
 

@@ -21,9 +21,9 @@ use Rattle.record_walk.specs.Fronts.{andThen, made, headTag, front}
 use Rattle.record_walk.proofs.FrontLaws.{then-some, only-some, made-some, Small, small-behind, small-front, cut-is, front-is, front-field, goods, several-is, several-all}
 use Rattle.judge_value.specs.Elements.{units, elementIn, inOrder, element, sameBase, fewUnits}
 use Rattle.judge_unit.proofs.UnitLaws.{small-number}
-use Rattle.judge_unit.proofs.UnitBytes.{listed-is, four-bytes, unitFields, unit-is, unit-back, unit-opens}
+use Rattle.judge_unit.proofs.UnitBytes.{listed-is, unitFields, unit-is, unit-back, unit-opens}
 use Rattle.judge_value.proofs.UnitsLaws.{snoc-some}
-use Rattle.rules.proofs.FieldLaws.{many-map}
+use Rattle.rules.proofs.FieldLaws.{four-bytes, many-map}
 use Rattle.judge_unit.specs.Units.{unit}
 
 -- ---- units

@@ -11,7 +11,7 @@ use Rattle.record_walk.specs.Runs.{Whole, bytesIn}
 use Rattle.order_argument.specs.Terms.{argumentBytes, IsArgument}
 use Rattle.order_argument.specs.declared.Argument.{Argument}
 use Rattle.order_argument.proofs.TermLaws.{argument-short, units-bytes}
-use Rattle.order.specs.Reduced.{partsBytes, reduce, reduced, Part, kept, placed, partFields, partsOf, reducedPlace}
+use Rattle.order.specs.Reduced.{partsBytes, reduce, reduced, Part, kept, placed, partFields, partsOf, reducedPlace, orderBytes}
 use Rattle.order.specs.Plans.{keptMark, positionsIn, Planned, Within, changed}
 use Rattle.order.proofs.ReduceLaws.{bytes-long, Reducing, reducing-none, reducing-turn, reducing-all}
 use native.Mathlib.Nat.{le-refl}
@@ -19,10 +19,10 @@ use lib.Dec.{ltb}
 use Rattle.laws.specs.Cases.{byBool}
 use Rattle.rules.specs.Units.{num}
 use Rattle.rules.specs.Commands.{Element, single, range, terms, Place, place}
-use Rattle.rules.specs.Records.{Field, field, fieldBytes, bytesOf, many, elementFields, placeFields, nameTag}
+use Rattle.rules.specs.Records.{Field, field, fieldBytes, bytesOf, many, elementFields, placeFields, nameTag, headBytes, headSize}
 use Rattle.rules.specs.Orders.{termAt, argumentAt, valueAt}
-use Rattle.rules.proofs.EncodeDecode.{IsRecord, record-is}
-use Rattle.rules.proofs.RecordBound.{record-size}
+use Rattle.rules.proofs.EncodeDecode.{IsBody, body-is}
+use Rattle.rules.proofs.RecordBound.{mostBody, body-size}
 use Rattle.order.proofs.PartLaws.{parts-fields}
 
 -- ---- an order is not longer than its record, since an argument is not longer than its element
@@ -64,22 +64,42 @@ parts-short (placed p ∷ ps) (n ∷ ns) =
 -- ---- a record with its plan
 
 module _ {rec row : List ℕ} (f : Planned rec row) where
-  is-record : IsRecord rec (f .tree)
-  is-record = record-is rec (f .tree) (f .is)
+  is-body : IsBody rec (f .tree)
+  is-body = body-is rec (f .tree) (f .is)
 
   pub planned-short : length (reduced rec (positionsIn row)) ≤ length rec
   unfolding reduced
   planned-short =
       let ns : List ℕ = positionsIn row in
-      let e : rec ≡ partsBytes (partsOf (f .tree)) = sym (is-record .bytes) ∙ ap bytesOf (sym (parts-fields (f .tree))) in
+      let e : rec ≡ partsBytes (partsOf (f .tree)) = sym (is-body .bytes) ∙ ap bytesOf (sym (parts-fields (f .tree))) in
       rw (f .is) (subst (λ (x : List ℕ). length (partsBytes (reduce (partsOf (f .tree)) ns)) ≤ length x) (sym e) (parts-short (partsOf (f .tree)) ns))
 
-  pub planned-fits : (old : List ℕ) → length rec ≤ length old → length (reduced rec (positionsIn row)) ≤ length old
-  planned-fits old h = omega (arith, planned-short)
+  abbrev whole : List ℕ
+  whole = orderBytes rec (positionsIn row)
+
+  pub whole-long : length whole ≡ headSize + length (reduced rec (positionsIn row))
+  whole-long = length-append (headBytes 1) (reduced rec (positionsIn row))
+
+  body-long : length rec ≤ mostBody
+  body-long = omega (arith, body-size (f .tree) (is-body .well), ap length (is-body .bytes))
+
+  -- the record's length fits a number of the machine
+  pub planned-length : headSize + length rec < 18446744073709551616
+  planned-length = omega (arith, body-long)
+
+  pub planned-fits : (old : List ℕ) → headSize + length rec ≤ length old → length whole ≤ length old
+  planned-fits old h = omega (arith, planned-short, whole-long)
+
+  pub planned-measured : {n : ℕ} → n ≡ length (reduced rec (positionsIn row)) → headSize + n < 18446744073709551616
+  planned-measured e = omega (arith, planned-short, body-long)
 
   -- the order's length fits an answer
-  pub planned-small : {n : ℕ} → n ≡ length (reduced rec (positionsIn row)) → n < 4294967296
-  planned-small e = omega (arith, planned-short, record-size (f .tree) (is-record .well), ap length (is-record .bytes))
+  pub planned-small : {n : ℕ} → n ≡ length whole → n < 4294967296
+  planned-small e = omega (arith, planned-short, whole-long, body-long)
+
+  pub whole-over : (out : List ℕ) {o ys : List ℕ} → o ≡ over (headBytes 1) out → ys ≡ over (reduced rec (positionsIn row)) (part o headSize)
+      → given o headSize ys ≡ over whole out
+  whole-over out e q = back-over (headBytes 1) (reduced rec (positionsIn row)) out e refl q
 
 -- ---- a changed value
 

@@ -10,8 +10,8 @@ use Rattle.laws.specs.Cases.{and-l, and-r}
 use Rattle.laws.specs.Lists.{all, all-append}
 use Rattle.rules.specs.Characters.{between, byte}
 use Rattle.rules.specs.Commands.{Place, place, Block, block, Command, command, allPlaces, placeCount}
-use Rattle.rules.specs.Records.{Field, field, fieldsOf, many, placeFields, blockFields, codeTag, blockTag, nameTag, fieldBytes, bytesOf, encode}
-use Rattle.rules.specs.WellFormed.{wellFormed, wfBlock, wfPlace, wfValue, recordOf}
+use Rattle.rules.specs.Records.{Field, field, fieldsOf, many, placeFields, blockFields, codeTag, blockTag, nameTag, fieldBytes, bytesOf, bodyBytes}
+use Rattle.rules.specs.WellFormed.{wellFormed, wfBlock, wfPlace, wfValue, bodyOf}
 use Rattle.rules.proofs.CommandBack.{c-blocks}
 use Rattle.rules.proofs.DecodeEncode.{place-value}
 use Rattle.rules.proofs.FieldLaws.{many-append}
@@ -216,7 +216,7 @@ order-parts (command c bs) k =
     ∙ ap (λ (l : List Part). map (λ w. kept (field codeTag w)) c ++ l) ((blocks-back bs k) .0)
 
 -- reduced at order k's positions, the record is order k's
-pub reduced-order : (rec : List ℕ) (c : Command) (k : ℕ) → recordOf rec ≡ ok c → reduced rec (positionsOf (map placeCount (placesIn c)) k) ≡ encode (orderAt c k)
+pub reduced-order : (rec : List ℕ) (c : Command) (k : ℕ) → bodyOf rec ≡ ok c → reduced rec (positionsOf (map placeCount (placesIn c)) k) ≡ bodyBytes (orderAt c k)
 unfolding reduced positionsOf
 reduced-order rec c k h = rw h (ap partsBytes (order-parts c k) ∙ ap bytesOf (parts-fields (orderAt c k)))
 

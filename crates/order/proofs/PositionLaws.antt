@@ -15,8 +15,8 @@ use Rattle.rules.specs.Units.{Base}
 use Rattle.rules.specs.Refusals.{ok}
 use Rattle.rules.specs.Commands.{Element, single, range, Place, place, Command, terms, sum, valueCount, placeCount}
 use Rattle.rules.specs.Records.{fieldBytes, bytesOf, many, elementFields, placeFields, nameTag, singleTag, rangeTag}
-use Rattle.rules.specs.WellFormed.{wfValue, recordOf}
-use Rattle.rules.proofs.EncodeDecode.{IsRecord, record-is}
+use Rattle.rules.specs.WellFormed.{wfValue, bodyOf}
+use Rattle.rules.proofs.EncodeDecode.{IsBody, body-is}
 use Rattle.rules.proofs.FieldLaws.{bytes-append}
 use Rattle.rules.proofs.ValueBack.{v-count}
 use Rattle.record_walk.specs.Fronts.{tagOf}
@@ -198,10 +198,10 @@ plan-positions at (placed (place a nm v) ∷ ps) (n ∷ ns) h (k, b) =
 
 -- ---- the row at the end
 
-plans-made : (rec : List ℕ) (k : ℕ) (c : Command) → recordOf rec ≡ ok c → Plans rec k ((planBack rec (spansOf c) k) .0)
+plans-made : (rec : List ℕ) (k : ℕ) (c : Command) → bodyOf rec ≡ ok c → Plans rec k ((planBack rec (spansOf c) k) .0)
 unfolding positionsOf
 plans-made rec k c is =
-    let w : IsRecord rec c = record-is rec c is in
+    let w : IsBody rec c = body-is rec c is in
     let ps : List Part = partsOf c in
     let ns : List ℕ = behind (map placeCount (placesIn c)) k in
     let stands : rec ≡ partsBytes ps = sym (w .bytes) ∙ ap bytesOf (sym (parts-fields c)) in

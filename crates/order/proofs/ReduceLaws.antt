@@ -15,7 +15,7 @@ use Rattle.rules.specs.Commands.{Element, single, range, leading, Place, place,
 use Rattle.rules.specs.Records.{fieldBytes, bytesOf, many, elementFields, placeFields, singleTag, stringTag}
 use Rattle.rules.specs.WellFormed.{wfValue}
 use Rattle.rules.specs.Orders.{valueAt, argumentAt}
-use Rattle.rules.proofs.EncodeDecode.{IsRecord, record-is}
+use Rattle.rules.proofs.EncodeDecode.{IsBody, body-is}
 use Rattle.rules.proofs.FieldLaws.{bytes-append}
 use Rattle.rules.proofs.ValueBack.{v-all}
 use Rattle.record_walk.specs.Fronts.{tagOf}
@@ -179,7 +179,7 @@ plan-long q (placed p ∷ ps) (n ∷ ns) (k, b) = omega (arith, plan-long (q + s
 pub reducing-none : (rec row : List ℕ) → Planned rec row → Reducing rec row 0 0 []
 unfolding reduced
 reducing-none rec row f =
-    let w : IsRecord rec (f .tree) = record-is rec (f .tree) (f .is) in
+    let w : IsBody rec (f .tree) = body-is rec (f .tree) (f .is) in
     let below : Below (partPlaces (partsOf (f .tree))) (positionsIn row) = rw (parts-in (f .tree)) (f .below) in
     record {
       q = 0;

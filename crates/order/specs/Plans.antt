@@ -1,5 +1,5 @@
--- The row: three numbers for each place. The judge leaves in it how many arguments the place has, and where its value begins and ends. Where the number
--- stood, order k puts what becomes of the value.
+-- The row: three numbers for each place. The judge leaves in it how many arguments the place has, and where its value begins and ends behind the record's head.
+-- Where the number stood, order k puts what becomes of the value. In all of this the bytes are those behind the head.
 use mathlib.Core.Path.{_≡_}
 use mathlib.Core.Bool.{Bool, true, false}
 use mathlib.Core.List.{List, [], _∷_, _++_, map}
@@ -10,7 +10,7 @@ use Rattle.laws.specs.Cases.{pick}
 use Rattle.rules.specs.Refusals.{ok, mostArguments}
 use Rattle.rules.specs.Commands.{Element, single, range, Place, place, Command, placeCount}
 use Rattle.rules.specs.Records.{fieldBytes, placeFields, rangeTag}
-use Rattle.rules.specs.WellFormed.{recordOf}
+use Rattle.rules.specs.WellFormed.{bodyOf}
 use Rattle.record_walk.specs.Fronts.{tagOf}
 use Rattle.record_walk.specs.Runs.{bytesIn}
 use Rattle.record_walk.specs.Spans.{size, headFields, spansOf}
@@ -21,7 +21,7 @@ use Rattle.order.specs.Reduced.{positionsOf, Part, kept, placed, partsOf
 -- the row that the judge leaves
 pub record Told (rec row : List ℕ) : Type 0 where
   pub tree : Command
-  pub is : recordOf rec ≡ ok tree
+  pub is : bodyOf rec ≡ ok tree
   pub told : row ≡ spansOf tree
 
 -- ---- what becomes of a value
@@ -63,7 +63,7 @@ positionsIn (n ∷ (s ∷ (e ∷ row))) = positionIn n ∷ positionsIn row
 -- the row is a plan for this record
 pub record Planned (rec row : List ℕ) : Type 0 where
   pub tree : Command
-  pub is : recordOf rec ≡ ok tree
+  pub is : bodyOf rec ≡ ok tree
   pub below : Below (placesIn tree) (positionsIn row)
   pub plan : row ≡ planOf 0 (partsOf tree) (positionsIn row)
 

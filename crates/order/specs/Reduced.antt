@@ -1,5 +1,5 @@
--- A record with each value reduced to the argument at its place's position; and the positions of order k. With these positions it is the record of
--- document 01's order k.
+-- What stands behind a record's head, with each value reduced to the argument at its place's position; and the positions of order k. With these positions it is
+-- what stands behind the head of document 01's order k.
 use mathlib.Core.Bool.{cond}
 use mathlib.Core.List.{List, [], _∷_, _++_, map}
 use Prim.Native.Nat.{ℕ, _/_, _%_, _<_}
@@ -7,8 +7,8 @@ use Rattle.laws.specs.Cases.{Always}
 use Rattle.rules.specs.Characters.{byte}
 use Rattle.rules.specs.Refusals.{Res, ok, bad}
 use Rattle.rules.specs.Commands.{Place, place, Block, block, Command, command, allPlaces, placeCount}
-use Rattle.rules.specs.Records.{Field, field, many, placeFields, bytesOf, codeTag, blockTag}
-use Rattle.rules.specs.WellFormed.{recordOf}
+use Rattle.rules.specs.Records.{Field, field, many, placeFields, bytesOf, headBytes, codeTag, blockTag}
+use Rattle.rules.specs.WellFormed.{bodyOf}
 use Rattle.rules.specs.Orders.{valueAt, back}
 
 -- "a place's position is the remainder of what is left of k by that place's number of arguments, and the quotient goes on to the place before"
@@ -53,8 +53,13 @@ abbrev pub reducedIn : Res Command → List ℕ → List ℕ
 reducedIn (ok c) ns = partsBytes (reduce (partsOf c) ns)
 reducedIn (bad n p) ns = []
 
+-- of the bytes behind a head
 unfoldable pub reduced : List ℕ → List ℕ → List ℕ
-reduced rec ns = reducedIn (recordOf rec) ns
+reduced rec ns = reducedIn (bodyOf rec) ns
+
+-- an order's record. M-103: "each order carries 1"
+abbrev pub orderBytes : List ℕ → List ℕ → List ℕ
+orderBytes rec ns = headBytes 1 ++ reduced rec ns
 
 -- ---- positions that a record has
 

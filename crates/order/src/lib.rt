@@ -1,11 +1,11 @@
-// Order k of a record by the direct rule, over the judge's row: each place's position, from the last place back; the length; the bytes.
+// Order k of a record by the direct rule, over the judge's row and from behind the record's head: each place's position, from the last place back; the length; the bytes.
 ghost use mathlib.Core.Path.{_≡_};
 ghost use Prim.Native.Nat.{_≤_};
 ghost use lib.ListN.{length};
 ghost use Rattle.laws.specs.Over.{over};
 ghost use Rattle.rules.specs.Refusals.{ok};
 ghost use Rattle.rules.specs.Answers.{fitted, Promise, Orders};
-ghost use Rattle.order.specs.Reduced.{reduced};
+ghost use Rattle.order.specs.Reduced.{reduced, orderBytes};
 ghost use Rattle.order.specs.Plans.{Told, positionsIn, Planned, Plans, slotFor, goesOn, Within, changed};
 
 // Where in its three numbers the value's start stands.
@@ -16,6 +16,9 @@ const END: usize = 2;
 
 // The value stays as it is: a value has no more arguments than this, so that no position is as high.
 const KEPT: u16 = rules::MOST_ARGUMENTS as u16;
+
+// The number of orders that an order has: itself.
+const SOLE: u32 = 1;
 
 // What becomes of a value: its place's position; a value without a choice stays as it is, if it is no range.
 fn position(rec: &[u8], value: usize, number: u16, left: u32) -> u16
@@ -85,7 +88,7 @@ fn put_changed(
     kept + order_argument::put_argument(&mut out[kept..], &rec[start..end], argument.term)
 }
 
-// The length of the record with each value reduced as the row says.
+// The length of what stands behind the head, with each value reduced as the row says.
 fn measure(rec: &[u8], row: &[u16]) -> usize
     requires { ⌜ Planned (now rec) (now row) ⌝ }
     ensures { λ r. ⌜ r ≡ length (reduced (now (rec .entry)) (positionsIn (now (row .entry)))) ⌝ }
@@ -108,7 +111,7 @@ fn measure(rec: &[u8], row: &[u16]) -> usize
     len + (rec.len() - at)
 }
 
-// Writes that record.
+// Writes it.
 fn put_reduced(out: &mut [u8], rec: &[u8], row: &[u16]) -> usize
     requires { ⌜ Planned (now rec) (now row) × (length (reduced (now rec) (positionsIn (now row))) ≤ length (now out)) ⌝ }
     ensures { λ r. ⌜ (r ≡ length (reduced (now (rec .entry)) (positionsIn (now (row .entry)))))
@@ -133,19 +136,37 @@ fn put_reduced(out: &mut [u8], rec: &[u8], row: &[u16]) -> usize
     len + (rec.len() - at)
 }
 
+// The length of an order's record.
+fn whole_len(rec: &[u8], row: &[u16]) -> usize
+    requires { ⌜ Planned (now rec) (now row) ⌝ }
+    ensures { λ r. ⌜ r ≡ length (orderBytes (now (rec .entry)) (positionsIn (now (row .entry)))) ⌝ }
+{
+    record_head::HEAD + measure(rec, row)
+}
+
+// Writes it: its head, and behind it each value reduced as the row says.
+fn put_whole(out: &mut [u8], rec: &[u8], row: &[u16]) -> usize
+    requires { ⌜ Planned (now rec) (now row) × (length (orderBytes (now rec) (positionsIn (now row))) ≤ length (now out)) ⌝ }
+    ensures { λ r. ⌜ (r ≡ length (orderBytes (now (rec .entry)) (positionsIn (now (row .entry)))))
+        × (now (out .exit) ≡ over (orderBytes (now (rec .entry)) (positionsIn (now (row .entry)))) (now (out .entry))) ⌝ }
+{
+    record_head::put_head(out, SOLE);
+    record_head::HEAD + put_reduced(&mut out[record_head::HEAD..], rec, row)
+}
+
 // Writes that record; 17 with the bytes needed if the buffer is too short, which only a buffer shorter than the record can be.
 fn put_order(out: &mut [u8], rec: &[u8], row: &[u16]) -> rules::Answer
     requires { ⌜ Planned (now rec) (now row) ⌝ }
-    ensures { λ r. ⌜ Promise (fitted (now (out .entry)) (ok (reduced (now (rec .entry)) (positionsIn (now (row .entry)))))) (now (out .entry)) r (now (out .exit)) ⌝ }
+    ensures { λ r. ⌜ Promise (fitted (now (out .entry)) (ok (orderBytes (now (rec .entry)) (positionsIn (now (row .entry)))))) (now (out .entry)) r (now (out .exit)) ⌝ }
 {
-    if rec.len() <= out.len() {
-        return rules::Answer::Done(put_reduced(out, rec, row) as u32);
+    if record_head::HEAD + rec.len() <= out.len() {
+        return rules::Answer::Done(put_whole(out, rec, row) as u32);
     }
-    let need = measure(rec, row);
+    let need = whole_len(rec, row);
     if out.len() < need {
         return rules::Answer::Refused(rules::NO_ROOM, need as u32);
     }
-    rules::Answer::Done(put_reduced(out, rec, row) as u32)
+    rules::Answer::Done(put_whole(out, rec, row) as u32)
 }
 
 // Order k of a record: 18 if the record is not well formed, 19 with the count if k is not below it, 17 if the buffer is too short.
@@ -160,6 +181,7 @@ pub fn order(rec: &[u8], k: u64, out: &mut [u8]) -> rules::Answer
         return rules::Answer::Refused(rules::NO_SUCH_ORDER, total);
     }
     let told = judge::PER_PLACE * places;
-    positions(rec, &mut row[..told], k as u32);
-    put_order(out, rec, &row[..told])
+    let body = &rec[record_head::HEAD..];
+    positions(body, &mut row[..told], k as u32);
+    put_order(out, body, &row[..told])
 }

@@ -15,14 +15,14 @@ use Rattle.rules.specs.Refusals.{Res, ok, bad, mostWord, mostString, moreOfCode
 use Rattle.rules.specs.Units.{Base, Unit, num, keyed, identifier, symbolic, text, isIdentifier}
 use Rattle.rules.specs.Commands.{Element, single, range, Place, place, Block, block, Command, command, leading, isPiece}
 use Rattle.rules.specs.Records.{Field, field, codeTag, placeTag, nameTag, singleTag, rangeTag, numeralTag, stringTag, num4, unitField, elementFields, many, placeFields, blockFields, fieldsOf, fieldBytes, bytesOf}
-use Rattle.rules.specs.WellFormed.{wfUnit, wfElement, wfValue, short, wfPieces, wfPlace, wfBlock, wellFormed, recordOf, isOk, wellFormedBytes}
+use Rattle.rules.specs.WellFormed.{wfUnit, wfElement, wfValue, short, wfPieces, wfPlace, wfBlock, wellFormed, bodyOf, isOk, wellFormedBody}
 use Rattle.rules.proofs.CommandBack.{c-code, c-blocks}
 use Rattle.rules.proofs.DecodeEncode.{place-value}
 use Rattle.rules.proofs.Names.{block-places}
 use Rattle.rules.proofs.ValueBack.{v-all, ok-lead, ok-last}
 use Rattle.rules.proofs.ResultLaws.{ok-inj}
-use Rattle.rules.proofs.EncodeDecode.{record-is}
-use Rattle.rules.proofs.RecordBound.{mostRecord, record-size}
+use Rattle.rules.proofs.EncodeDecode.{body-is}
+use Rattle.rules.proofs.RecordBound.{mostBody, body-size}
 use Rattle.rules.proofs.TextBound.{pieceFields}
 use Rattle.record_walk.specs.Fields.{lengthAt}
 use Rattle.record_walk.proofs.RunLaws.{drop-behind, stands-inside}
@@ -154,7 +154,7 @@ pub record Bounding (rec : List ℕ) (at base sum : ℕ) : Type 0 where
   pub fs : List Field
   pub is : drop at rec ≡ bytesOf fs
   pub inside : at ≤ length rec
-  pub few : length rec ≤ mostRecord
+  pub few : length rec ≤ mostBody
   pub bytes : (i : ℕ) → getD rec i 0 < 256
   pub sized : all isSized fs ≡ true
   pub paid : TextWithin rec (sum + fieldsBound base fs)
@@ -323,17 +323,17 @@ command-sized (command c bs) h =
     all-append isSized (pieceFields codeTag c) (many blockFields bs) (pieces-sized codeTag (λ w. refl) isIdentifier moreOfCode c (c-code c bs h))
     (many-sized wfBlock blockFields block-sized bs (c-blocks c bs h))
 
-pub bounding : (rec : List ℕ) → wellFormedBytes rec ≡ true → ((i : ℕ) → getD rec i 0 < 256) → Bounding rec 0 0 1
-bounding rec h bytes = go (recordOf rec) refl h
+pub bounding : (rec : List ℕ) → wellFormedBody rec ≡ true → ((i : ℕ) → getD rec i 0 < 256) → Bounding rec 0 0 1
+bounding rec h bytes = go (bodyOf rec) refl h
   where
-    go : (r : Res Command) → recordOf rec ≡ r → isOk r ≡ true → Bounding rec 0 0 1
+    go : (r : Res Command) → bodyOf rec ≡ r → isOk r ≡ true → Bounding rec 0 0 1
     go (ok c) e h =
-        let i = record-is rec c e in
+        let i = body-is rec c e in
         record {
           fs = fieldsOf c;
           is = sym (i .bytes);
           inside = omega arith;
-          few = omega (arith, record-size c (i .well), ap length (i .bytes));
+          few = omega (arith, body-size c (i .well), ap length (i .bytes));
           bytes = bytes;
           sized = command-sized c (i .well);
           paid = λ c′ r. rw (ok-inj (sym r ∙ e)) (text-bound c (i .well));

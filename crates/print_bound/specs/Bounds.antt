@@ -11,13 +11,13 @@ use Rattle.rules.specs.Characters.{byte}
 use Rattle.rules.specs.Refusals.{ok}
 use Rattle.rules.specs.Commands.{Command}
 use Rattle.rules.specs.Printing.{print}
-use Rattle.rules.specs.WellFormed.{recordOf}
+use Rattle.rules.specs.WellFormed.{bodyOf}
 use Rattle.rules.specs.Records.{Field, field, placeTag, singleTag, rangeTag, numeralTag, stringTag, num4, fieldBytes}
 use Rattle.record_walk.specs.Fields.{lengthAt}
 
--- at most n bytes has the text of the command whose record the bytes are
+-- at most n bytes has the text of the command whose record has these bytes behind its head
 abbrev pub TextWithin : List ℕ → ℕ → Type 0
-TextWithin rec n = (c : Command) → recordOf rec ≡ ok c → length (print c) ≤ n
+TextWithin rec n = (c : Command) → bodyOf rec ≡ ok c → length (print c) ≤ n
 
 -- ---- numbers
 

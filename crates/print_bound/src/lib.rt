@@ -1,4 +1,4 @@
-// The printer's bound: at most so many bytes a well-formed record's text has, in one pass over the record's fields. It is no measure of the text: it tells
+// The printer's bound: at most so many bytes a well-formed record's text has, in one pass over the fields behind its head. It is no measure of the text: it tells
 // early that most texts fit.
 use record_walk::HEADER;
 use record_walk::LETTER_FIELD;
@@ -10,9 +10,8 @@ use record_walk::SINGLE;
 use record_walk::STRING;
 ghost use mathlib.Core.Path.{_≡_};
 ghost use mathlib.Core.Bool.{true};
-ghost use Prim.Native.Nat.{_+_, _≤_};
-ghost use lib.ListN.{length};
-ghost use Rattle.rules.specs.WellFormed.{wellFormedBytes};
+ghost use Prim.Native.Nat.{_+_};
+ghost use Rattle.rules.specs.WellFormed.{wellFormedBody};
 ghost use Rattle.record_walk.specs.Fields.{lengthAt};
 ghost use Rattle.print_bound.specs.Bounds.{TextWithin, longerBound, stopBound, anyBound, isPlain, numberBound, endBound, otherAt, Stands};
 
@@ -128,9 +127,9 @@ fn other_bound(rec: &[u8], at: usize) -> usize
     }
 }
 
-// At most so many bytes the text of the record has.
+// At most so many bytes the text of a record has that has these bytes behind its head.
 pub fn bound(rec: &[u8]) -> usize
-    requires { ⌜ wellFormedBytes (now rec) ≡ true ⌝ }
+    requires { ⌜ wellFormedBody (now rec) ≡ true ⌝ }
     ensures { λ r. ⌜ TextWithin (now (rec .entry)) r ⌝ }
 {
     let mut at: usize = 0;

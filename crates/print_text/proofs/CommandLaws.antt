@@ -10,10 +10,10 @@ use Rattle.laws.specs.Cases.{and-l, and-r}
 use Rattle.laws.specs.Lists.{all}
 use Rattle.laws.specs.Over.{back, back-over, length-over, over, part}
 use Rattle.rules.proofs.CommandBack.{c-blocks, c-code}
-use Rattle.rules.proofs.EncodeDecode.{record-is}
+use Rattle.rules.proofs.EncodeDecode.{body-is}
 use Rattle.rules.proofs.FieldLaws.{bytes-append, bytes-cons}
 use Rattle.rules.proofs.Names.{block-places}
-use Rattle.rules.proofs.RecordBound.{record-bound}
+use Rattle.rules.proofs.RecordBound.{body-size}
 use Rattle.rules.proofs.TextBound.{text-bound}
 use Rattle.rules.specs.Characters.{byte}
 use Rattle.rules.specs.Commands.{Block, Command, Place, block, command, place}
@@ -22,7 +22,7 @@ use Rattle.rules.specs.Records.{Field, blockFields, bytesOf, codeTag, many, nam
 use Rattle.rules.specs.Refusals.{Res, bad, moreOfCode, ok}
 use Rattle.rules.specs.Tokens.{Lex, colon, comma, dash, semi, sep}
 use Rattle.rules.specs.Units.{isIdentifier}
-use Rattle.rules.specs.WellFormed.{isOk, recordOf, wellFormedBytes, wfBlock, wfPlace}
+use Rattle.rules.specs.WellFormed.{isOk, bodyOf, wellFormedBody, wfBlock, wfPlace}
 use Rattle.print_value.proofs.ElementLaws.{render-append}
 use Rattle.print_value.proofs.UnitsLaws.{again, written-all}
 use Rattle.print_value.specs.Values.{mostLength}
@@ -164,13 +164,13 @@ record Start (rec : List ℕ) : Type 0 where
   few : length (textOf rec) ≤ 458752
   placing : Placing rec (0 + length (pieceBytes codeTag (w ∷ ws))) (piecesText w ws)
 
-start-of : (rec : List ℕ) (r : Res Command) → recordOf rec ≡ r → isOk r ≡ true → Start rec
+start-of : (rec : List ℕ) (r : Res Command) → bodyOf rec ≡ r → isOk r ≡ true → Start rec
 unfolding textOf piecesText
 start-of rec (bad n p) r h = absurd (false≢true h)
-start-of rec (ok (command [] bs)) r h = absurd (false≢true (record-is rec (command [] bs) r .well))
+start-of rec (ok (command [] bs)) r h = absurd (false≢true (body-is rec (command [] bs) r .well))
 start-of rec (ok (command (w ∷ ws) bs)) r h =
     let c : Command = command (w ∷ ws) bs in
-    let i = record-is rec c r in
+    let i = body-is rec c r in
     let text : textOf rec ≡ print c = rw (r, textOf) in
     let P : List ℕ = pieceBytes codeTag (w ∷ ws) in
     let d : rec ≡ P ++ blocksBytes bs = sym (i .bytes) ∙ bytes-append (pieceFields codeTag (w ∷ ws)) (many blockFields bs) in
@@ -188,7 +188,7 @@ start-of rec (ok (command (w ∷ ws) bs)) r h =
         ends = low-block bs .1;
         inside = omega arith;
       };
-      few = omega (arith, ap length text, text-bound c (i .well), record-bound c (i .well));
+      few = omega (arith, ap length text, text-bound c (i .well), body-size c (i .well));
       placing = record {
         named = false;
         ps = [];
@@ -201,8 +201,8 @@ start-of rec (ok (command (w ∷ ws) bs)) r h =
       };
     }
 
-start-at : (rec : List ℕ) → wellFormedBytes rec ≡ true → Start rec
-start-at rec h = start-of rec (recordOf rec) refl h
+start-at : (rec : List ℕ) → wellFormedBody rec ≡ true → Start rec
+start-at rec h = start-of rec (bodyOf rec) refl h
 
 -- ---- the loops
 
@@ -246,7 +246,7 @@ module _ {rec : List ℕ} {k at : ℕ} (m : Counting rec k at) where
             few = m .few;
           }
 
-module _ (rec : List ℕ) (good : wellFormedBytes rec ≡ true) where
+module _ (rec : List ℕ) (good : wellFormedBody rec ≡ true) where
   pub code-fits : {room : ℕ} → length (textOf rec) ≤ room → PiecesFit rec 0 codeTag room
   code-fits h =
       let g = start-at rec good in
@@ -275,7 +275,7 @@ pub record Written (rec mid out : List ℕ) (k₀ k at : ℕ) : Type 0 where
   pub wide : length (textOf rec) ≤ length mid
   pub long : length out ≡ length mid
 
-module _ (rec old : List ℕ) (good : wellFormedBytes rec ≡ true) {code : Put} {mid : List ℕ} (l : PutPieces rec 0 codeTag old code mid) where
+module _ (rec old : List ℕ) (good : wellFormedBody rec ≡ true) {code : Put} {mid : List ℕ} (l : PutPieces rec 0 codeTag old code mid) where
   pub written-code : length (textOf rec) ≤ length old → length mid ≡ length old → Written rec mid mid (code .bytes) (code .bytes) (code .next)
   unfolding counting-code
   written-code f k =

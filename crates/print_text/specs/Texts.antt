@@ -1,10 +1,10 @@
--- The text of a record.
+-- The text of a record, from behind its head.
 use mathlib.Core.List.{List, []}
 use Prim.Native.Nat.{ℕ}
 use Rattle.rules.specs.Refusals.{ok, bad}
 use Rattle.rules.specs.Printing.{print}
-use Rattle.rules.specs.WellFormed.{recordOf}
+use Rattle.rules.specs.WellFormed.{bodyOf}
 
--- the rules' text of the command whose record the bytes are
+-- the rules' text of the command whose record has these bytes behind its head
 unfoldable pub textOf : List ℕ → List ℕ
-textOf rec = elim (recordOf rec) [ ok c ↦ print c | bad n p ↦ [] ]
+textOf rec = elim (bodyOf rec) [ ok c ↦ print c | bad n p ↦ [] ]

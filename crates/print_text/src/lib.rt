@@ -1,4 +1,4 @@
-// The text of a record that is known to be well formed: code, blocks, places. Each writer is lent the buffer from its start position, and says every byte
+// The text of a record that is known to be well formed, from behind its head: code, blocks, places. Each writer is lent the buffer from its start position, and says every byte
 // of it; beside each stands the function that only measures.
 use print_value::Put;
 ghost use mathlib.Core.Path.{_≡_};
@@ -6,7 +6,7 @@ ghost use mathlib.Core.Bool.{true};
 ghost use Prim.Native.Nat.{_+_, _^_, _≤_, _<_};
 ghost use lib.ListN.{length};
 ghost use Rattle.laws.specs.Over.{over};
-ghost use Rattle.rules.specs.WellFormed.{wellFormedBytes};
+ghost use Rattle.rules.specs.WellFormed.{wellFormedBody};
 ghost use Rattle.print_value.specs.Values.{mostLength};
 ghost use Rattle.print_text.specs.Texts.{textOf};
 ghost use Rattle.print_text.specs.Places.{PiecesFit, PiecesLen, PutPieces, NameFits, NameLen, PutName, ContentFits, ContentLen, PutContent, ownField, separatorAt, PlaceFits, PlaceLen, PutPlace};
@@ -156,9 +156,9 @@ fn place_len(rec: &[u8], at: usize) -> Put
     }
 }
 
-// Writes the record's text. Returns how many characters.
+// Writes the text of a record that has these bytes behind its head. Returns how many characters.
 pub fn put_text(out: &mut [u8], rec: &[u8]) -> usize
-    requires { ⌜ (wellFormedBytes (now rec) ≡ true) × (length (textOf (now rec)) ≤ length (now out)) ⌝ }
+    requires { ⌜ (wellFormedBody (now rec) ≡ true) × (length (textOf (now rec)) ≤ length (now out)) ⌝ }
     ensures { λ r. ⌜ (r ≡ length (textOf (now (rec .entry)))) × (now (out .exit) ≡ over (textOf (now (rec .entry))) (now (out .entry))) ⌝ }
 {
     let code = put_pieces(out, rec, 0, record_walk::CODE);
@@ -175,7 +175,7 @@ pub fn put_text(out: &mut [u8], rec: &[u8]) -> usize
 
 // How many characters it has.
 pub fn text_len(rec: &[u8]) -> usize
-    requires { ⌜ wellFormedBytes (now rec) ≡ true ⌝ }
+    requires { ⌜ wellFormedBody (now rec) ≡ true ⌝ }
     ensures { λ r. ⌜ r ≡ length (textOf (now (rec .entry))) ⌝ }
 {
     let code = pieces_len(rec, 0, record_walk::CODE);

@@ -5,16 +5,17 @@ ghost use mathlib.Core.Path.{_≡_};
 ghost use mathlib.Core.Bool.{true};
 ghost use Prim.Native.Nat.{_≤_};
 ghost use lib.ListN.{length};
-ghost use Rattle.rules.specs.WellFormed.{wellFormedBytes};
+ghost use Rattle.rules.specs.WellFormed.{wellFormedBody};
 ghost use Rattle.rules.specs.Answers.{Prints};
 ghost use Rattle.print_text.specs.Texts.{textOf};
+ghost use Rattle.printer.specs.Given.{Gives};
 
-// A record of at most so many bytes has a text of at most 1,024: a text has at most seven bytes for each byte of its record.
+// Behind its head a record of at most so many bytes has a text of at most 1,024: a text has at most seven bytes for each byte there.
 const SHORT: usize = 146;
 
-// At most so many bytes a record's text has.
+// At most so many bytes the text of a record has that has these bytes behind its head.
 fn most_of(rec: &[u8]) -> usize
-    requires { ⌜ wellFormedBytes (now rec) ≡ true ⌝ }
+    requires { ⌜ wellFormedBody (now rec) ≡ true ⌝ }
     ensures { λ r. ⌜ length (textOf (now (rec .entry))) ≤ r ⌝ }
 {
     if SHORT < rec.len() {
@@ -23,10 +24,10 @@ fn most_of(rec: &[u8]) -> usize
     rules::MOST_TEXT
 }
 
-// Prints a record that is known to be well formed: its text measured, then written.
+// Prints what stands behind the head of a record that is known to be well formed: its text measured, then written.
 fn print_measured(rec: &[u8], out: &mut [u8]) -> Answer
-    requires { ⌜ wellFormedBytes (now rec) ≡ true ⌝ }
-    ensures { λ r. ⌜ Prints (now (rec .entry)) (now (out .entry)) r (now (out .exit)) ⌝ }
+    requires { ⌜ wellFormedBody (now rec) ≡ true ⌝ }
+    ensures { λ r. ⌜ Gives (textOf (now (rec .entry))) (now (out .entry)) r (now (out .exit)) ⌝ }
 {
     let needed = print_text::text_len(rec);
     if rules::MOST_TEXT < needed {
@@ -38,10 +39,10 @@ fn print_measured(rec: &[u8], out: &mut [u8]) -> Answer
     Answer::Done(print_text::put_text(out, rec) as u32)
 }
 
-// Prints a record that is known to be well formed: it is written at once where the bound says that it fits, else it is measured first.
+// Prints what stands behind the head of a record that is known to be well formed: it is written at once where the bound says that it fits, else it is measured first.
 fn print_known(rec: &[u8], out: &mut [u8]) -> Answer
-    requires { ⌜ wellFormedBytes (now rec) ≡ true ⌝ }
-    ensures { λ r. ⌜ Prints (now (rec .entry)) (now (out .entry)) r (now (out .exit)) ⌝ }
+    requires { ⌜ wellFormedBody (now rec) ≡ true ⌝ }
+    ensures { λ r. ⌜ Gives (textOf (now (rec .entry))) (now (out .entry)) r (now (out .exit)) ⌝ }
 {
     let most = most_of(rec);
     if most <= rules::MOST_TEXT {
@@ -52,13 +53,13 @@ fn print_known(rec: &[u8], out: &mut [u8]) -> Answer
     print_measured(rec, out)
 }
 
-// Prints a record as a command: judged first, then written where its text fits.
+// Prints a record as a command: judged first, then written from behind its head where its text fits.
 pub fn print(rec: &[u8], out: &mut [u8]) -> Answer
     ensures { λ r. ⌜ Prints (now (rec .entry)) (now (out .entry)) r (now (out .exit)) ⌝ }
 {
     let mut none = [0u16; 0];
     match judge::judge(rec, &mut none) {
-        Judged::Good { places, total } => print_known(rec, out),
+        Judged::Good { places, total } => print_known(&rec[record_head::HEAD..], out),
         Judged::Bad => Answer::Refused(rules::NOT_WELL_FORMED, 0),
     }
 }

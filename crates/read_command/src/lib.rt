@@ -24,6 +24,8 @@ ghost use Rattle.read_bases.specs.Bases.{basesIn};
 ghost use Rattle.token_table.specs.Parts.{partsFrom};
 ghost use Rattle.read_command.specs.Blocks.{counted, opened, HasKind, placesRead, blockRead, blocksRead, tallyRead, commandRead};
 
+// The bytes of a record's head, which stands before the code.
+const HEAD: u64 = record_head::HEAD as u64;
 // The bytes of a block's own field: tag, length, kind.
 const BLOCK_FIELD: u64 = record_walk::LETTER_FIELD as u64;
 
@@ -43,9 +45,9 @@ pub enum Tallied {
     Refused { no: u8, place: u32 },
 }
 
-// A command that is right: the bytes of its record. Or a refusal.
+// A command that is right: the bytes of its record, and the number of its orders. Or a refusal.
 pub enum Checked {
-    Fine { bytes: u32 },
+    Fine { bytes: u32, orders: u32 },
     Refused { no: u8, place: u32 },
 }
 
@@ -208,7 +210,10 @@ fn finish(blocks: Tallied) -> Checked
                     place: t.at,
                 };
             }
-            Checked::Fine { bytes: t.bytes }
+            Checked::Fine {
+                bytes: t.bytes,
+                orders: t.product,
+            }
         }
     }
 }
@@ -222,7 +227,8 @@ fn segments(toks: &[u64], contents: &[u8], bases: &[u8], end: u32) -> Checked
     match read_pieces::pieces(&toks[..k], contents, false, MORE_OF_CODE, WRONG_CODE, at) {
         Verdict::Refused { no, place } => Checked::Refused { no, place },
         Verdict::Fine => {
-            let bytes = token_table::pieces_len(&toks[..k], contents);
+            let code = token_table::pieces_len(&toks[..k], contents);
+            let bytes = token_table::cap(HEAD + code as u64);
             let start = Tally {
                 places: 0,
                 bytes,
@@ -235,7 +241,7 @@ fn segments(toks: &[u64], contents: &[u8], bases: &[u8], end: u32) -> Checked
     }
 }
 
-// A whole command of `len` bytes, from its tokens: all of 6 to 16, and the bytes of its record.
+// A whole command of `len` bytes, from its tokens: all of 6 to 16, the bytes of its record and the number of its orders.
 pub fn command(toks: &[u64], contents: &[u8], bases: &[u8], len: u32) -> Checked
     ensures { λ r. ⌜ r ≡ commandRead (readCut (basesIn (now (bases .entry))) len (cutAt semi (tokensIn (now (contents .entry)) (now (toks .entry))))) ⌝ }
 {

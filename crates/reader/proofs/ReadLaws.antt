@@ -11,6 +11,7 @@ use Rattle.rules.specs.declared.Answer.{Answer}
 use Rattle.rules.specs.declared.Answer.the-variants.{Done, Refused}
 use Rattle.rules.specs.Answers.{fitted, reading, Promise, Reads}
 use Rattle.rules.specs.Commands.{Command, cutAt}
+use Rattle.rules.specs.Orders.{count}
 use Rattle.rules.specs.Reading.{readCut, readLetters, read}
 use Rattle.rules.specs.Records.{encode}
 use Rattle.rules.specs.Refusals.{Res, ok, bad, mapR}
@@ -55,46 +56,48 @@ module _ (ts cs ls : List ℕ) (n : ℕ) (old : List ℕ) where
       let i : k ≡ m = cc in let j : o ≡ p = cc in
       refused old r m p (rw (i, j) at y))
 
-  -- a command that is right, and the bytes of its record
-  record IsRight (z : ℕ) : Type 0 where
+  -- a command that is right, the bytes of its record and the number of its orders
+  record IsRight (z o : ℕ) : Type 0 where
     c : Command
     is : readCut (basesIn ls) n (cutAt semi (tokensIn cs ts)) ≡ ok c
     size : z ≡ length (encode c)
+    counted : o ≡ count c
 
-  short-is : (z : ℕ) (w : IsRight z) → length old < z → Records ts cs ls n old (Refused 17 z) old
-  short-is z w h =
+  short-is : (z o : ℕ) (w : IsRight z o) → length old < z → Records ts cs ls n old (Refused 17 z) old
+  short-is z o w h =
       let g = lt-leb (length (encode (w .c))) (length old) (omega (arith, w .size)) in
       record { answers = rw (w .is, g, w .size); holds = rw (w .is, g) }
 
-  done-is : (z : ℕ) (w : IsRight z) → z ≤ length old → {r : ℕ} {new : List ℕ} → PutCommand ts cs ls r old new → Records ts cs ls n old (Done r) new
-  done-is z w h p =
+  done-is : (z o : ℕ) (w : IsRight z o) → z ≤ length old → {r : ℕ} {new : List ℕ} → PutCommand ts cs ls r old new → Records ts cs ls n old (Done r) new
+  done-is z o w h p =
       let g = le-leb (length (encode (w .c))) (length old) (omega (arith, w .size)) in
       let v = p n (w .c) (w .is) in
       record { answers = rw (w .is, g, v .0); holds = rw (w .is, g) (v .1) }
 
-  module _ (z : ℕ) {x : Checked} (w : TokensOf ts cs) (q : x ≡ commandRead (readCut (basesIn ls) n (cutAt semi (tokensIn cs ts)))) (h : x ≡ Right z) where
-    right : IsRight z
+  module _ (z o : ℕ) {x : Checked} (w : TokensOf ts cs) (q : x ≡ commandRead (readCut (basesIn ls) n (cutAt semi (tokensIn cs ts)))) (h : x ≡ Right z o) where
+    right : IsRight z o
     right =
         let t = tokensIn cs ts in
         byRes (readCut (basesIn ls) n (cutAt semi t))
         (λ c y.
-        let u : Right z ≡ Right (capped (length (encode c))) = sym h ∙ q ∙ ap commandRead y in
+        let u : Right z o ≡ Right (capped (length (encode c))) (count c) = sym h ∙ q ∙ ap commandRead y in
         let v : z ≡ capped (length (encode c)) = cc in
+        let g : o ≡ count c = cc in
         let k = record-bound c (cut-wf (basesIn ls) n (cutAt semi t) c (cut-ok semi t (scan-ok (w .text) t (w .is))) y) in
-        record { c = c; is = y; size = v ∙ cap-small (length (encode c)) (omega arith) })
-        (λ k o y. let u : Right z ≡ Wrong k o = sym h ∙ q ∙ ap commandRead y in
+        record { c = c; is = y; size = v ∙ cap-small (length (encode c)) (omega arith); counted = g })
+        (λ k p y. let u : Right z o ≡ Wrong k p = sym h ∙ q ∙ ap commandRead y in
         let w : _≡_ {A = ℕ} 0 1 = cc in absurd (omega arith))
 
     -- 17
     pub tokens-short : length old < z → Records ts cs ls n old (Refused 17 z) old
-    tokens-short s = short-is z right s
+    tokens-short s = short-is z o right s
 
     module _ (s : z ≤ length old) where
-      pub tokens-fit : CommandFits ts cs ls (length old)
-      tokens-fit = record { end = n; c = right .c; is = right .is; fits = omega (arith, right .size) }
+      pub tokens-fit : CommandFits ts cs ls o (length old)
+      tokens-fit = record { end = n; c = right .c; is = right .is; counted = right .counted; fits = omega (arith, right .size) }
 
       pub tokens-done : {r : ℕ} {new : List ℕ} → PutCommand ts cs ls r old new → Records ts cs ls n old (Done r) new
-      tokens-done p = done-is z right s p
+      tokens-done p = done-is z o right s p
 
     pub tokens-answer : {r : ℕ} {new : List ℕ} → PutCommand ts cs ls r old new → z < 2 ^ 32 → Fits w32 r
     tokens-answer p g = omega (arith, p n (right .c) (right .is) .0, right .size)

@@ -32,11 +32,11 @@ fn put_record(toks: &[u64], contents: &[u8], bases: &[u8], len: u32, out: &mut [
 {
     match read_command::command(toks, contents, bases, len) {
         Checked::Refused { no, place } => Answer::Refused(no, place),
-        Checked::Fine { bytes } => {
+        Checked::Fine { bytes, orders } => {
             if out.len() < bytes as usize {
                 return Answer::Refused(NO_ROOM, bytes);
             }
-            Answer::Done(command_fields::put_command(out, toks, contents, bases) as u32)
+            Answer::Done(command_fields::put_command(out, toks, contents, bases, orders) as u32)
         }
     }
 }

@@ -13,7 +13,7 @@ use lib.Seq.{getD-drop, drop-drop, take-at, drop-at, length-take-le, getD-append
 use Rattle.laws.specs.Cases.{pick, byBool, some-inj, none≢some, and-l, and-r}
 use Rattle.rules.specs.Records.{Field, field, fieldBytes, bytesOf, many}
 use Rattle.record_walk.specs.Fields.{fits}
-use Rattle.record_walk.specs.Fronts.{Read, andThen, only, made, tagOf, headTag, sizeOf, bodyOf, cut, fitting, front, before, several}
+use Rattle.record_walk.specs.Fronts.{Read, andThen, only, made, tagOf, headTag, sizeOf, contentOf, cut, fitting, front, before, several}
 use Rattle.rules.proofs.FieldLaws.{bytes-append, bytes-cons}
 
 -- ---- taking readings apart
@@ -146,7 +146,7 @@ front-tag r t w r′ e =
     front-is r t w r′ e
     (λ _ c. byBool (ltb (length r) (sizeOf r)) (λ y. none≢some (rw y at c))
     (λ y.
-    let q : _≡_ {A = Field × List ℕ} (field (tagOf r) (bodyOf r), drop (sizeOf r) r) (field t w, r′) = some-inj (rw y at c) in
+    let q : _≡_ {A = Field × List ℕ} (field (tagOf r) (contentOf r), drop (sizeOf r) r) (field t w, r′) = some-inj (rw y at c) in
     let room : sizeOf r ≤ length r = ltb-false (length r) (sizeOf r) y in
     sym (ap (λ (x : Field × List ℕ). tagIn (x .0)) q) ∙ sym (head-some r (omega arith))))
   where

@@ -45,12 +45,12 @@ headTag (t ∷ h ∷ l ∷ r) = t
 abbrev pub sizeOf : List ℕ → ℕ
 sizeOf r = 3 + (getD r 1 0 * 256 + getD r 2 0)
 
-abbrev pub bodyOf : List ℕ → List ℕ
-bodyOf r = take (getD r 1 0 * 256 + getD r 2 0) (drop 3 r)
+abbrev pub contentOf : List ℕ → List ℕ
+contentOf r = take (getD r 1 0 * 256 + getD r 2 0) (drop 3 r)
 
 -- the field at the front, of any tag and length
 unfoldable pub cut : List ℕ → Read Field
-cut r = pick (ltb (length r) (sizeOf r)) none (some (field (tagOf r) (bodyOf r), drop (sizeOf r) r))
+cut r = pick (ltb (length r) (sizeOf r)) none (some (field (tagOf r) (contentOf r), drop (sizeOf r) r))
 
 abbrev pub fitting : Field → Bool
 fitting (field t w) = fits t (length w)

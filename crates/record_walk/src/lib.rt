@@ -39,8 +39,11 @@ pub const IDENTIFIER: u8 = 9;
 // of a symbolic name,
 pub const SYMBOLIC: u8 = 10;
 
-// of a string, the last of the units.
+// of a string, the last of the units,
 pub const STRING: u8 = 11;
+
+// and of the number of orders, with which a record begins.
+pub const COUNT: u8 = 12;
 
 // The bytes before a field's content: one of the tag, two of the length.
 pub const HEADER: usize = 3;

@@ -1,8 +1,9 @@
--- Fields one behind the other: their bytes are those of the parts, one behind the other.
+-- Fields one behind the other: their bytes are those of the parts, one behind the other. Four bytes, read as a number and written again, are those bytes.
 use mathlib.Core.Path.{_≡_, refl, sym, ap, _∙_}
 use mathlib.Core.List.{List, [], _∷_, _++_, map, append-assoc}
-use Prim.Native.Nat.{ℕ}
-use Rattle.rules.specs.Records.{Field, fieldBytes, bytesOf, many}
+use Prim.Native.Nat.{ℕ, _+_, _*_, _/_, _%_, _^_, _<_}
+use native.Mathlib.Omega.{arith}
+use Rattle.rules.specs.Records.{Field, fourBytes, fieldBytes, bytesOf, many}
 
 pub bytes-append : (xs ys : List Field) → bytesOf (xs ++ ys) ≡ bytesOf xs ++ bytesOf ys
 bytes-append [] ys = refl
@@ -21,3 +22,12 @@ many-append g (x ∷ xs) ys = ap (λ (fs : List Field). g x ++ fs) (many-append 
 pub bytes-cons : {A : Type 0} (g : A → List Field) (a : A) (as′ : List A) (rest : List ℕ)
     → bytesOf (many g (a ∷ as′)) ++ rest ≡ bytesOf (g a) ++ (bytesOf (many g as′) ++ rest)
 bytes-cons g a as′ rest = rw (bytes-append (g a) (many g as′)) (append-assoc (bytesOf (g a)) (bytesOf (many g as′)) rest)
+
+pub four-bytes : (a b c d : ℕ) → b < 256 → c < 256 → d < 256 → fourBytes (a * 2 ^ 24 + b * 2 ^ 16 + c * 256 + d) ≡ a ∷ b ∷ c ∷ d ∷ []
+four-bytes a b c d hb hc hd =
+    let v : ℕ = a * 2 ^ 24 + b * 2 ^ 16 + c * 256 + d in
+    let e1 : v / 2 ^ 24 ≡ a = omega arith in
+    let e2 : v / 2 ^ 16 % 256 ≡ b = omega arith in
+    let e3 : v / 256 % 256 ≡ c = omega arith in
+    let e4 : v % 256 ≡ d = omega arith in
+    rw (e1, e2, e3, e4)

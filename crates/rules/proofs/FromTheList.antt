@@ -14,15 +14,15 @@ use Rattle.laws.specs.Lists.{eqL}
 use Rattle.rules.specs.declared.Keeper.{Keeper}
 use Rattle.rules.specs.Refusals.{Res, ok, bad, _>>=_, mapR, guard, mostText}
 use Rattle.rules.specs.Tokens.{Token, semi, idle, run, firstOff, scan}
-use Rattle.rules.specs.Commands.{Command, command, cutAt}
+use Rattle.rules.specs.Commands.{Command, cutAt}
 use Rattle.rules.specs.Reading.{readLetters, read}
-use Rattle.rules.specs.Records.{encode, decode}
+use Rattle.rules.specs.Records.{encode, decode, countIn}
 use Rattle.rules.specs.WellFormed.{wellFormed, judged, recordOf}
 use Rattle.rules.specs.Printing.{print}
 use Rattle.rules.specs.Orders.{orderAt, count}
 use Rattle.rules.specs.Answers.{fitted, reading, printing, ordering, counting}
 use Rattle.rules.specs.Keeping.{ready, held, found, stored, pressing}
-use Rattle.rules.proofs.CommandBack.{count-all, c-count}
+use Rattle.rules.proofs.CountIsField.{count-most, field-is, counted}
 use Rattle.rules.proofs.EncodeDecode.{record-is}
 use Rattle.rules.proofs.OrderWellFormed.{order-wf}
 use Rattle.rules.proofs.ReadSound.{read-wf}
@@ -131,7 +131,7 @@ pub record-comes : (P : ℕ → ℕ → Type 0) (r : List ℕ) → P 18 0 → Co
 unfolding recordOf
 record-comes P r h = go (decode r)
   where
-    go : (o : Option Command) → Comes P (λ c. wellFormed c ≡ true) (judged r o)
+    go : (o : Option Command) → Comes P (λ c. wellFormed c ≡ true) (judged encode r o)
     go none = h
     go (some c) =
         guard-comes P (λ d. wellFormed d ≡ true) (wellFormed c && eqL (encode c) r) 18 0 (λ _. ok c) (λ _. h)
@@ -160,7 +160,7 @@ abbrev toOrder : List ℕ → ℕ → Res (List ℕ)
 toOrder r k = recordOf r >>= λ c. guard (ltb k (count c)) 19 (count c) >>= λ _. ok (encode (orderAt c k))
 
 pub ordering-comes : (r : List ℕ) (k : ℕ) (old : List ℕ) → Comes (OrderRefuses r k old) Record (ordering r k old)
-unfolding ordering counting
+unfolding ordering
 ordering-comes r k old =
     fitted-comes (OrderRefuses r k old) Record old (toOrder r k)
     (bind-comes (OrderRefuses r k old) (λ c. recordOf r ≡ ok c) Record (recordOf r)
@@ -168,7 +168,7 @@ ordering-comes r k old =
     (comes-self (OrderRefuses r k old) (λ c. wellFormed c ≡ true) (recordOf r) (record-comes (OrderRefuses r k old) r notWellFormed))
     (λ c x.
     guard-comes (OrderRefuses r k old) Record (ltb k (count c)) 19 (count c) (λ _. ok (encode (orderAt c k)))
-    (λ y. noSuchOrder (rw x) (omega (arith, ltb-false k (count c) y)))
+    (λ y. noSuchOrder (counted r c x) (omega (arith, ltb-false k (count c) y)))
     (λ y. record-bound (orderAt c k) (order-wf c k ((record-is r c x) .well)))))
     (λ w q h. noRoom h q)
 
@@ -182,10 +182,9 @@ Orders n = n ≤ 65535
 pub counting-comes : (r : List ℕ) → Comes CountRefuses Orders (counting r)
 unfolding counting
 counting-comes r =
-    map-comes CountRefuses (λ c. wellFormed c ≡ true) Orders count (recordOf r) (record-comes CountRefuses r notWellFormed) few
-  where
-    few : (c : Command) → wellFormed c ≡ true → Orders (count c)
-    few (command c bs) h = omega (arith, count-all bs, c-count c bs h)
+    map-comes CountRefuses (λ c. recordOf r ≡ ok c) Orders (λ c. countIn r) (recordOf r)
+    (comes-self CountRefuses (λ c. wellFormed c ≡ true) (recordOf r) (record-comes CountRefuses r notWellFormed))
+    (λ c x. omega (arith, field-is r c x, count-most c ((record-is r c x) .well)))
 
 pub count-list : (r : List ℕ) (n p : ℕ) → counting r ≡ bad n p → CountRefuses n p
 count-list r n p e = comes-bad CountRefuses Orders (counting r) n p (counting-comes r) e

@@ -33,6 +33,7 @@ pub mod RefusalPlaces
 pub mod FromTheList
 pub mod OrderFits
 pub mod EncodeDecode
+pub mod CountIsField
 pub mod TextBound
 pub mod RecordBound
 pub mod AnswersFit

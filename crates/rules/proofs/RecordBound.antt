@@ -16,7 +16,7 @@ use Rattle.rules.specs.Characters.{byte}
 use Rattle.rules.specs.Units.{Base, keys, letter, Unit, num, keyed, identifier, symbolic, text, isIdentifier}
 use Rattle.rules.specs.Commands.{Name, Element, single, range, Place, place, Block, block, Command, command, allPlaces, leading, terms, sum, mult, valueCount, placeCount, isPiece}
 use Rattle.rules.specs.WellFormed.{wfUnit, wfElement, wfValue, short, wfPieces, wfPlace, wfBlock, wellFormed}
-use Rattle.rules.specs.Records.{field, fourBytes, unitField, elementFields, many, placeFields, blockFields, fieldBytes, encode}
+use Rattle.rules.specs.Records.{field, fourBytes, unitField, elementFields, many, placeFields, blockFields, fieldBytes, bodyBytes, headSize, encode}
 use Rattle.rules.proofs.CommandBack.{c-code, c-few, c-blocks, c-places, c-count, w-most}
 use Rattle.rules.proofs.Counts.{terms-pos}
 use Rattle.rules.proofs.DecodeEncode.{place-value}
@@ -55,9 +55,12 @@ moreOfValue = mostElements - 1
 abbrev pub mostLater : ℕ
 mostLater = moreOfValue + moreOfValue + (mostOrders / (mostElements * mostElements) - 1)
 
--- a record: code, blocks, places, and the elements that are not the first of their value
+-- a record behind its head: code, blocks, places, and the elements that are not the first of their value
+abbrev pub mostBody : ℕ
+mostBody = (moreOfCode + 1) * mostPiece + mostBlocks * (fieldHead + 1) + mostPlaces * mostPlace + mostLater * mostElement
+
 abbrev pub mostRecord : ℕ
-mostRecord = (moreOfCode + 1) * mostPiece + mostBlocks * (fieldHead + 1) + mostPlaces * mostPlace + mostLater * mostElement
+mostRecord = headSize + mostBody
 
 -- ---- the sum from the product
 
@@ -271,9 +274,9 @@ blocks-size (block k ps ∷ bs) =
       blocks-size bs,
     )
 
--- the bytes by the limits of the parts: at most 62,365
-pub record-size : (c : Command) → wellFormed c ≡ true → length (encode c) ≤ mostRecord
-record-size (command c bs) h =
+-- the bytes by the limits of the parts
+pub body-size : (c : Command) → wellFormed c ≡ true → length (bodyBytes c) ≤ mostBody
+body-size (command c bs) h =
     let r : Held (allPlaces bs) = blocks-held bs (c-blocks c bs h) in
     omega (
       arith,
@@ -286,6 +289,10 @@ record-size (command c bs) h =
       c-places c bs h,
       c-count c bs h,
     )
+
+-- with the head's at most 62,372
+pub record-size : (c : Command) → wellFormed c ≡ true → length (encode c) ≤ mostRecord
+record-size c h = omega (arith, body-size c h)
 
 -- and the number that the library's header names
 pub record-bound : (c : Command) → wellFormed c ≡ true → length (encode c) ≤ 65536
@@ -317,5 +324,5 @@ longest =
 pub longest-well-formed : wellFormed longest ≡ true
 longest-well-formed = refl
 
-pub longest-size : length (encode longest) ≡ 62365
+pub longest-size : length (encode longest) ≡ 62372
 longest-size = refl

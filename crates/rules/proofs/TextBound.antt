@@ -1,4 +1,4 @@
--- The printed text has at most seven bytes for each byte of the record: each field pays for the text of its piece, place, element or unit and for one
+-- The printed text has at most seven bytes for each byte of the record behind its head: each field pays for the text of its piece, place, element or unit and for one
 -- separator before it, and a range's field for its upper end and its increment.
 use Prim.Native.Nat.{ℕ, zero, suc, _+_, _*_, _/_, _^_, _≤_}
 use mathlib.Core.Path.{_≡_, refl, ap, _∙_}
@@ -14,13 +14,13 @@ use Rattle.rules.specs.Refusals.{ok}
 use Rattle.rules.specs.Tokens.{Sep, dash, comma, colon, equals, semi, Lex, word, sep}
 use Rattle.rules.specs.Units.{Radix, Base, plain, keys, letter, radixLetter, size, sameBase, Unit, num, keyed, identifier, symbolic, text, isIdentifier}
 use Rattle.rules.specs.Commands.{Element, single, range, Place, place, Block, block, Command, command, leading, lastUnit}
-use Rattle.rules.specs.WellFormed.{okFraction, wfUnit, wfElement, wfValue, wfPieces, wfPlace, wfBlock, wellFormed, recordOf}
-use Rattle.rules.specs.Records.{Field, field, fourBytes, unitField, elementFields, many, placeFields, blockFields, fieldBytes, bytesOf, encode}
+use Rattle.rules.specs.WellFormed.{okFraction, wfUnit, wfElement, wfValue, wfPieces, wfPlace, wfBlock, wellFormed, bodyOf}
+use Rattle.rules.specs.Records.{Field, field, fourBytes, unitField, elementFields, many, placeFields, blockFields, fieldBytes, bytesOf, bodyBytes}
 use Rattle.rules.specs.Printing.{digits, digitsOf, mostDigits, numText, doubled, incLinks, tailLinks, fullLinks, laterLinks, restLinks, isShort, valueLex, moreLex, joinedLex, wordLex, nameLex, placeLex, blockLex, sepText, print}
 use Rattle.rules.proofs.CommandBack.{c-code, c-blocks}
 use Rattle.rules.proofs.DecodeEncode.{place-value}
 use Rattle.rules.proofs.Names.{block-places}
-use Rattle.rules.proofs.EncodeDecode.{record-is}
+use Rattle.rules.proofs.EncodeDecode.{body-is}
 use Rattle.rules.proofs.FieldLaws.{bytes-append}
 use Rattle.rules.proofs.NeverLonger.{rl, rl-append, rl-cons, joined-len}
 use Rattle.rules.proofs.UnitBack.{digits-most, of-length}
@@ -203,7 +203,7 @@ code-bound : (c : List (List ℕ)) → wfPieces isIdentifier 2 c ≡ true → su
 code-bound [] h = absurd (false≢true h)
 code-bound (w ∷ ws) h = pieces-bound 1 w ws
 
-pub text-bound : (c : Command) → wellFormed c ≡ true → length (print c) ≤ 7 * length (encode c)
+pub text-bound : (c : Command) → wellFormed c ≡ true → length (print c) ≤ 7 * length (bodyBytes c)
 text-bound (command c bs) h =
     let N : List Lex = joinedLex dash (map wordLex c) in
     let M : List Lex = moreLex colon (map blockLex bs) in
@@ -216,6 +216,6 @@ text-bound (command c bs) h =
       joined-bound blockLex blockFields wfBlock block-bound colon refl bs (c-blocks c bs h),
     )
 
--- the same of a record's bytes
-pub record-bound : (r : List ℕ) (c : Command) → recordOf r ≡ ok c → length (print c) ≤ 7 * length r
-record-bound r c e = let i = record-is r c e in omega (arith, text-bound c (i .well), ap length (i .bytes))
+-- the same of bytes that stand behind a head: the head prints nothing
+pub body-bound : (b : List ℕ) (c : Command) → bodyOf b ≡ ok c → length (print c) ≤ 7 * length b
+body-bound b c e = let i = body-is b c e in omega (arith, text-bound c (i .well), ap length (i .bytes))

@@ -12,7 +12,7 @@ use Rattle.rules.specs.Characters.{isPermitted}
 use Rattle.rules.specs.Tokens.{wordChars}
 use Rattle.rules.specs.Units.{Radix, rD, rH, rO, rB, Base, plain, Unit, num, keyed, identifier, symbolic, text, isHeldKey, runOf, numeral, isIdentifier, isSymbolicName, allowed}
 use Rattle.rules.specs.Commands.{Element, single, range, Name, Place, place, placeName, sameName, Block, block, Command, command, leading, lastUnit, allPlaces, mult, valueCount, placeCount, isPiece}
-use Rattle.rules.specs.Records.{encode, decode}
+use Rattle.rules.specs.Records.{bodyBytes, encode, decodeBody, decode}
 
 -- ---- units: "its units would be read as that kind under their place's base"
 
@@ -92,17 +92,22 @@ wellFormed (command c bs) =
 
 -- ---- on bytes: 18 "record not well formed (place 0)"
 
-abbrev pub judged : List ℕ → Option Command → Res Command
-judged r none = bad notWellFormed 0
-judged r (some c) = guard (wellFormed c && eqL (encode c) r) notWellFormed 0 >>= λ _. ok c
+-- the command, if it is well formed and the bytes are what is written of it
+abbrev pub judged : (Command → List ℕ) → List ℕ → Option Command → Res Command
+judged written r none = bad notWellFormed 0
+judged written r (some c) = guard (wellFormed c && eqL (written c) r) notWellFormed 0 >>= λ _. ok c
 
--- the command whose well-formed record the bytes are
+-- the command whose well-formed record the bytes are; M-103: "A record whose field isn't the product, or that lacks it, is not well formed"
 unfoldable pub recordOf : List ℕ → Res Command
-recordOf r = judged r (decode r)
+recordOf r = judged encode r (decode r)
+
+-- the command whose well-formed record has these bytes behind its head
+unfoldable pub bodyOf : List ℕ → Res Command
+bodyOf b = judged bodyBytes b (decodeBody b)
 
 abbrev pub isOk : {A : Type 0} → Res A → Bool
 isOk (ok a) = true
 isOk (bad n p) = false
 
-abbrev pub wellFormedBytes : List ℕ → Bool
-wellFormedBytes r = isOk (recordOf r)
+abbrev pub wellFormedBody : List ℕ → Bool
+wellFormedBody b = isOk (bodyOf b)

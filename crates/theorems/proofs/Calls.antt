@@ -12,11 +12,12 @@ use Rattle.laws.specs.Cases.{byBool}
 use Rattle.rules.specs.Refusals.{Res, ok, bad, mapR, mostText, tooLong, noRoom, noSuchOrder}
 use Rattle.rules.specs.Commands.{Command}
 use Rattle.rules.specs.Reading.{read}
-use Rattle.rules.specs.Records.{encode}
+use Rattle.rules.specs.Records.{encode, countIn}
 use Rattle.rules.specs.WellFormed.{wellFormed, recordOf}
 use Rattle.rules.specs.Printing.{print}
 use Rattle.rules.specs.Orders.{orders, orderAt, count}
-use Rattle.rules.specs.Answers.{fitted, reading, printing, ordering, counting}
+use Rattle.rules.specs.Answers.{fitted, reading, printing, ordering}
+use Rattle.rules.proofs.CountIsField.{counted, order-count, order-one}
 use Rattle.rules.proofs.DirectIsList.{count-is, direct-is}
 use Rattle.rules.proofs.EncodeDecode.{IsRecord, record-is, record-of}
 use Rattle.rules.proofs.NeverLonger.{never-longer, read-most}
@@ -27,7 +28,7 @@ use Rattle.rules.proofs.ResultLaws.{ok-inj, ok≢bad, bind-ok, map-ok, guard-ok
 use Rattle.rules.proofs.RoundTrip.{read-print}
 use Rattle.rules.proofs.SoleOrder.{order-sole}
 use Rattle.grammar.proofs.Exact.{sound, complete}
-use Rattle.theorems.specs.Demands.{Accepted, Accepts, ReadWithoutRoom, RefusedForRoomAlone, Printable, PrintsGivenRoom, PrintWithoutRoom, PrintThenRead, ReadThenPrint, Past, Ordered, OrdersGivenRoom, OrdersAreListed, SoleOrderOnBytes}
+use Rattle.theorems.specs.Demands.{Accepted, Accepts, ReadWithoutRoom, RefusedForRoomAlone, Printable, PrintsGivenRoom, PrintWithoutRoom, PrintThenRead, ReadThenPrint, Past, Ordered, OrdersGivenRoom, OrderCarriesOne, OrdersAreListed, SoleOrderOnBytes}
 
 -- ---- reading and printing
 
@@ -41,6 +42,10 @@ fitted-is old r w h k =
     let same : v ≡ w = ok-inj e in
     k (a ∙ e) (subst (λ x. length x ≤ length old) same (leb-true (length v) (length old) t))))
 
+-- and back, of bytes that are known to be others
+fitted-as : (old x w : List ℕ) → x ≡ w → length w ≤ length old → fitted old (ok x) ≡ ok w
+fitted-as old x w e h = rw e (rw (le-leb (length w) (length old) h))
+
 pub accepts : Accepts
 unfolding reading
 accepts letters text old r = (there, back)
@@ -52,7 +57,7 @@ accepts letters text old r = (there, back)
         map-ok encode (read letters text) r a (λ c q e. record { tree = c; follows = sound letters text c q; bytes = e; room = room }))
 
     back : Accepted letters text old r → reading text letters old ≡ ok r
-    back x = rw (complete letters text (x .tree) (x .follows), x .bytes, le-leb (length r) (length old) (x .room))
+    back x = rw (complete letters text (x .tree) (x .follows)) (fitted-as old (encode (x .tree)) r (x .bytes) (x .room))
 
 pub read-without-room : ReadWithoutRoom
 unfolding reading
@@ -97,7 +102,7 @@ print-then-read r text old new c h p room =
     let y : Printable r old text = (prints-given-room r old text) .0 p in
     let text-is : text ≡ print c = sym (y .prints) ∙ ap print (ok-inj (sym (y .is) ∙ h)) in
     let few : length (print c) ≤ mostText = subst (λ x. length x ≤ mostText) text-is (y .few) in
-    rw (text-is, read-print c (is .well) few, is .bytes, le-leb (length r) (length new) room)
+    rw (text-is, read-print c (is .well) few) (fitted-as new (encode c) r (is .bytes) room)
 
 pub read-then-print : ReadThenPrint
 unfolding reading printing
@@ -134,20 +139,25 @@ orders-given-room r k old o = (there, back)
         (λ t same. record { tree = c; is = q; below = ltb-true k (count c) t; bytes = ok-inj same; room = room })))
 
     back : Ordered r k old o → ordering r k old ≡ ok o
-    back x = rw (x .is, lt-ltb k (count (x .tree)) (x .below), x .bytes, le-leb (length o) (length old) (x .room))
+    back x = rw (x .is, lt-ltb k (count (x .tree)) (x .below)) (fitted-as old (encode (orderAt (x .tree) k)) o (x .bytes) (x .room))
+
+pub order-carries-one : OrderCarriesOne
+order-carries-one r old o k h =
+    let x : Ordered r k old o = (orders-given-room r k old o) .0 h in
+    ap countIn (sym (x .bytes)) ∙ order-one (x .tree) k ((record-is r (x .tree) (x .is)) .well)
 
 pub orders-are-listed : OrdersAreListed
-unfolding ordering counting
+unfolding ordering
 orders-are-listed r old c d k h lt room =
     let well : wellFormed c ≡ true = (record-is r c h) .well in
     let long : length (orders c) ≡ count c = count-is c well in
     let below : k < count c = rw long at lt in
     let same : getD (orders c) k d ≡ orderAt c k = direct-is c k d well below in
     let fits : length (encode (orderAt c k)) ≤ length old = rw same at room in
-    (rw (h, long), rw (h, lt-ltb k (count c) below, same, le-leb (length (encode (orderAt c k))) (length old) fits))
+    (counted r c h ∙ ap ok (sym long), rw (h, lt-ltb k (count c) below, same, le-leb (length (encode (orderAt c k))) (length old) fits))
 
 pub sole-order-on-bytes : SoleOrderOnBytes
-unfolding reading ordering counting
+unfolding reading ordering
 sole-order-on-bytes r o t old new also k h p room =
     let x : Ordered r k old o = (orders-given-room r k old o) .0 h in
     let y : Printable r new t = (prints-given-room r new t) .0 p in
@@ -160,14 +170,14 @@ sole-order-on-bytes r o t old new also k h p room =
     let fits : length (print d) ≤ length t = omega (arith, order-fits c k ((record-is r c (x .is)) .well), long) in
     let few : length (print d) ≤ mostText = le-trans fits (y .few) in
     let one : orders d ≡ d ∷ [] = order-sole c k in
-    let counts : count d ≡ 1 = sym (count-is d well) ∙ ap length one in
+    let counts : count d ≡ 1 = order-count c k ((record-is r c (x .is)) .well) in
     let first : orderAt d 0 ≡ d = sym (direct-is d 0 d well (omega (arith, counts))) ∙ ap (λ l. getD l 0 d) one in
     record {
       tree = d;
       is = is;
       text = print d;
       printed = (prints-given-room o new (print d)) .1 (record { tree = d; is = is; prints = refl; few = few; room = le-trans fits (y .room) });
-      readBack = rw (read-print d well few, x .bytes, le-leb (length o) (length also) room);
-      counted = rw (is, counts);
-      only = rw (is, counts, first, x .bytes, le-leb (length o) (length also) room);
+      readBack = rw (read-print d well few) (fitted-as also (encode d) o (x .bytes) room);
+      counted = counted o d is ∙ ap ok counts;
+      only = rw (is, counts, first) (fitted-as also (encode d) o (x .bytes) room);
     }

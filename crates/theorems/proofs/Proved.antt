@@ -6,6 +6,7 @@ use lib.ListN.{length}
 use Rattle.rules.proofs.AnswersFit.{reading-most, printing-most, ordering-most, counting-most, pressing-most}
 use Rattle.rules.proofs.CallRows.{reads-are, prints-are, orders-are, counts-are}
 use Rattle.rules.proofs.Capitals.{capitals}
+use Rattle.rules.proofs.CountIsField.{answers-field, field-length, begins-with, other-number, without-field}
 use Rattle.rules.proofs.DecodeEncode.{decode-encode}
 use Rattle.rules.proofs.DirectIsList.{count-is, direct-is}
 use Rattle.rules.proofs.EncodeDecode.{record-is, record-of}
@@ -30,14 +31,14 @@ use Rattle.rules.specs.Reading.{read}
 use Rattle.rules.specs.Orders.{orderAt}
 use Rattle.rules.specs.Keeping.{held, keeperAfter}
 use Rattle.grammar.proofs.Exact.{sound, complete, unique, refused}
-use Rattle.theorems.specs.Demands.{Twelve, Example77, FromTheList, AnswersFit, Decided, CountDecided, KeyDecided, Exact, Unique, Refused, ReadSound, NamesDiffer, Capitals, WellFormedIsReadable, RoundTrip, NeverLonger, DecodeEncode, EncodeDecode, RecordBound, DirectIsList, CountIsLength, Past, OrderWellFormed, OrderFits, SoleOrder, Accepts, ReadWithoutRoom, RefusedForRoomAlone, PrintsGivenRoom, PrintWithoutRoom, PrintThenRead, ReadThenPrint, OrdersGivenRoom, OrdersAreListed, SoleOrderOnBytes, KeeperIsList, FreshKeeper, ReadyLine, AcceptedIsTyped, ReadyLast, ClassesOfBytes, RangesOfBytes, CapitalLetters, DigitsOfBases, KeyedDigits, BaseLetters, WordsByRule, UnitsOfACommand, SeparatorTexts, TableOfTags, RefusalNumbers, Limits, CellsOfRefusals, CallRows, KeyRows}
+use Rattle.theorems.specs.Demands.{Twelve, Example84, FromTheList, AnswersFit, Decided, CountDecided, KeyDecided, Exact, Unique, Refused, ReadSound, NamesDiffer, Capitals, WellFormedIsReadable, RoundTrip, NeverLonger, DecodeEncode, EncodeDecode, RecordBound, DirectIsList, CountIsLength, CountIsField, OrderCarriesOne, FieldIsAsked, Past, OrderWellFormed, OrderFits, SoleOrder, Accepts, ReadWithoutRoom, RefusedForRoomAlone, PrintsGivenRoom, PrintWithoutRoom, PrintThenRead, ReadThenPrint, OrdersGivenRoom, OrdersAreListed, SoleOrderOnBytes, KeeperIsList, FreshKeeper, ReadyLine, AcceptedIsTyped, ReadyLast, ClassesOfBytes, RangesOfBytes, CapitalLetters, DigitsOfBases, KeyedDigits, BaseLetters, WordsByRule, UnitsOfACommand, SeparatorTexts, TableOfTags, RefusalNumbers, Limits, CellsOfRefusals, CallRows, KeyRows}
 use Rattle.theorems.proofs.Calls
 
 twelve-lines : Twelve
 twelve-lines = lines
 
-example-77 : Example77
-example-77 = example-is
+example-84 : Example84
+example-84 = example-is
 
 from-the-list : FromTheList
 from-the-list = (reader-list, printer-list, order-list, count-list, key-list)
@@ -97,6 +98,15 @@ direct-is-list = direct-is
 
 count-is-length : CountIsLength
 count-is-length = count-is
+
+count-is-field : CountIsField
+count-is-field r c h = (answers-field r c h, field-length r c h, begins-with r c h)
+
+carries-one : OrderCarriesOne
+carries-one = Calls.order-carries-one
+
+field-is-asked : FieldIsAsked
+field-is-asked c h = (λ n small other. other-number n c small h other, without-field c h)
 
 past-the-count : Past
 past-the-count = Calls.past

@@ -17,7 +17,7 @@ use Rattle.rules.specs.Characters.{bytes, capital, isLetter, isDigit, isAlnum, 
 use Rattle.rules.specs.Units.{rD, rH, rO, rB, letter, baseOf, radixAt, baseAt, Unit, keyed, isKey, isHeldKey}
 use Rattle.rules.specs.Commands.{Place, Block, block, Command, command, placeName, commandUnits}
 use Rattle.rules.specs.Reading.{read, readAny}
-use Rattle.rules.specs.Records.{encode, decode, bases}
+use Rattle.rules.specs.Records.{fourBytes, fieldsOf, bytesOf, encode, decode, countIn, bases}
 use Rattle.rules.specs.WellFormed.{wellFormed, recordOf}
 use Rattle.rules.specs.Printing.{print}
 use Rattle.rules.specs.Orders.{orders, orderAt, count}
@@ -38,9 +38,9 @@ use Rattle.grammar.specs.Grammar.{Follows}
 abbrev pub Twelve : Type 0
 Twelve = map found twelve ≡ map stated twelve
 
--- "`SET-ATT:LIN=7-1&&-3,LEV=3.5;` with DD gives 77 bytes"
-abbrev pub Example77 : Type 0
-Example77 = mapR encode (read (bytes "DD") example) ≡ ok example77
+-- "`SET-ATT:LIN=7-1&&-3,LEV=3.5;` with DD gives 77 bytes"; M-103: "Every record in document 01 grows by seven bytes."
+abbrev pub Example84 : Type 0
+Example84 = mapR encode (read (bytes "DD") example) ≡ ok (0x0C ∷ 0x00 ∷ 0x04 ∷ 0x00 ∷ 0x00 ∷ 0x00 ∷ 0x03 ∷ example77)
 
 -- ======== demand 1: each call takes all inputs, and its answer is decided
 
@@ -138,6 +138,24 @@ DirectIsList = (c : Command) (k : ℕ) (d : Command) → wellFormed c ≡ true �
 -- "the count is the list's length"
 abbrev pub CountIsLength : Type 0
 CountIsLength = (c : Command) → wellFormed c ≡ true → length (orders c) ≡ count c
+
+-- M-103: "a record begins with tag 12, four bytes, the number of its orders"; behind it stands document 01's record. "The count call .. its answer is then the field", and that is the
+-- length of the list
+abbrev pub CountIsField : Type 0
+CountIsField =
+    (r : List ℕ) (c : Command) → recordOf r ≡ ok c
+    → (counting r ≡ ok (countIn r)) × (countIn r ≡ length (orders c)) × (r ≡ 12 ∷ 0 ∷ 4 ∷ (fourBytes (length (orders c)) ++ bytesOf (fieldsOf c)))
+
+-- M-103: "each order carries 1"
+abbrev pub OrderCarriesOne : Type 0
+OrderCarriesOne = (r old o : List ℕ) (k : ℕ) → ordering r k old ≡ ok o → countIn o ≡ 1
+
+-- M-103: "A record whose field isn't the product, or that lacks it, is not well formed (18)."
+abbrev pub FieldIsAsked : Type 0
+FieldIsAsked =
+    (c : Command) → wellFormed c ≡ true
+    → ((n : ℕ) → n ≤ mostValue → (n ≡ count c → ⊥) → recordOf (12 ∷ 0 ∷ 4 ∷ (fourBytes n ++ bytesOf (fieldsOf c))) ≡ bad notWellFormed 0)
+    × (recordOf (bytesOf (fieldsOf c)) ≡ bad notWellFormed 0)
 
 -- "from there on k is refused"
 abbrev pub Past : Type 0

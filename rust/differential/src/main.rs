@@ -13,7 +13,8 @@
 //! until there are, and fails if a quarter of an hour is not enough. It fails too unless every
 //! call gave each answer that it can give: success and, all calls together, every refusal; and
 //! unless the inputs that were made had numerals in small letters, read in commands and refused
-//! in records, and showed all that keys do. The same SEED gives the same inputs.
+//! in records, had records refused for the number of their orders alone, and showed all that keys
+//! do. The same SEED gives the same inputs.
 
 mod commands;
 mod compare;
@@ -23,6 +24,7 @@ mod keys;
 mod library;
 mod lines;
 mod names;
+mod order_counts;
 mod random;
 mod records;
 mod small_letters;
@@ -37,6 +39,7 @@ use compare::{Answer, Call, Difference, Outcome};
 use coverage::Coverage;
 use keys::{Keys, READY};
 use library::Library;
+use order_counts::OrderCounts;
 use random::Random;
 use small_letters::SmallLetters;
 
@@ -132,6 +135,7 @@ struct Run {
     longest_record: usize,
     answers: Coverage,
     small_letters: SmallLetters,
+    order_counts: OrderCounts,
     keys: Keys,
     /// Records of accepted commands.
     pool: Vec<Vec<u8>>,
@@ -150,8 +154,9 @@ impl Run {
             longest_record: 0,
             answers: Coverage::default(),
             small_letters: SmallLetters::default(),
+            order_counts: OrderCounts::default(),
             keys: Keys::default(),
-            pool: vec![vec![1, 0, 1, b'A']],
+            pool: vec![vec![12, 0, 4, 0, 0, 0, 1, 1, 0, 1, b'A']],
         }
     }
 
@@ -168,6 +173,7 @@ impl Run {
         let missing = [
             self.answers.missing(),
             self.small_letters.missing(),
+            self.order_counts.missing(),
             self.keys.missing(),
         ];
         match missing.concat() {
@@ -309,6 +315,7 @@ impl Run {
         self.answers.note(call, outcome.answer);
         if self.is_made() {
             self.small_letters.note(call, &outcome);
+            self.order_counts.note(call, outcome.answer);
         }
         for room in [needed, needed.saturating_sub(1), 0] {
             let answer = call
@@ -397,6 +404,7 @@ impl Run {
         );
         self.answers.show();
         self.small_letters.show();
+        self.order_counts.show();
         self.keys.show();
     }
 }

@@ -1,5 +1,6 @@
 //! Generated records: those of commands, changed in their bytes and in their fields, spliced,
-//! and grown past what a text can give.
+//! and grown past what a text can give. Before most of them stands the number of orders that they
+//! have, whatever else is wrong with them.
 
 use std::ops::Range;
 
@@ -10,27 +11,130 @@ use crate::random::Random;
 /// A field: tag and content.
 pub type Field = (u8, Vec<u8>);
 
+/// The tag of the number of orders, which a record begins with.
+pub const COUNT: u8 = 12;
+
 /// A record made of one or two others.
 pub fn record(random: &mut Random, one: &[u8], other: &[u8]) -> Vec<u8> {
     match random.below(8) {
         0 => one.to_vec(),
-        1 => {
+        1 if random.one_in(3) => {
             let mut record = one.to_vec();
             damage(random, &mut record);
             record
         }
-        2 => join(&grown(random)),
+        1 => {
+            let mut rest = join(&uncounted(one));
+            damage(random, &mut rest);
+            let count = count(orders(&fields(&rest)));
+            [join(&[count]), rest].concat()
+        }
+        2 => {
+            let fields = grown(random);
+            counted(random, fields)
+        }
         _ => {
-            let mut fields = fields(one);
+            let mut fields = uncounted(one);
             for _ in 0..random.pick(&[1, 1, 1, 2, 3]) {
                 change(random, &mut fields, other);
             }
-            let mut record = join(&fields);
+            let mut record = counted(random, fields);
             if random.one_in(20) {
                 damage(random, &mut record);
             }
             record
         }
+    }
+}
+
+/// The field of the number of orders.
+pub fn count(orders: u32) -> Field {
+    (COUNT, orders.to_be_bytes().to_vec())
+}
+
+/// The fields of a record but the number of its orders.
+pub fn uncounted(record: &[u8]) -> Vec<Field> {
+    let mut fields = fields(record);
+    fields.retain(|field| field.0 != COUNT);
+    fields
+}
+
+/// The record of these fields behind the number of their orders, which is now and then wrong.
+fn counted(random: &mut Random, mut fields: Vec<Field>) -> Vec<u8> {
+    fields.insert(0, count(orders(&fields)));
+    if random.one_in(6) {
+        change_count(random, &mut fields);
+    }
+    join(&fields)
+}
+
+/// Changes the number of orders, the first of the fields, or where and how often it stands.
+fn change_count(random: &mut Random, fields: &mut Vec<Field>) {
+    match random.below(10) {
+        0 | 1 => {
+            let wrong = random.pick(&[1, u32::MAX]);
+            let orders = orders(&fields[1..]);
+            fields[0] = count(orders.wrapping_add(wrong));
+        }
+        2 => change_number(random, &mut fields[0].1),
+        3 => {
+            fields.remove(0);
+        }
+        4 | 5 => {
+            let count = fields.remove(0);
+            let to = random.below(fields.len() + 1);
+            fields.insert(to, count);
+        }
+        6 => fields[0].0 = random.pick(&[0, 1, 2, 3, 7, 11, 13, 14, 255]),
+        7 => {
+            let length = random.pick(&[0, 1, 2, 3, 5, 6, 8]);
+            fields[0].1.resize(length, 1);
+        }
+        8 => {
+            let last = random.pick(&[1, fields.len()]);
+            let to = random.between(1, last);
+            fields.insert(to, fields[0].clone());
+        }
+        _ => fields.truncate(1),
+    }
+}
+
+/// The number of orders of a record with these fields, if it is well formed; of others what can
+/// be made of their elements.
+pub fn orders(fields: &[Field]) -> u32 {
+    let mut orders = 1_u64;
+    let mut arguments = 0;
+    for (at, (tag, content)) in fields.iter().enumerate() {
+        match tag {
+            3 => {
+                orders = orders.saturating_mul(arguments.max(1));
+                arguments = 0;
+            }
+            5 => arguments += 1,
+            6 => arguments += terms(content, &fields[at + 1..]),
+            _ => (),
+        }
+    }
+    orders.saturating_mul(arguments.max(1)) as u32
+}
+
+/// The number of terms of a range with this content and these fields behind it; 1 if it is none.
+fn terms(content: &[u8], behind: &[Field]) -> u64 {
+    let units = behind.iter().take_while(|field| is_unit(field));
+    let (Ok([a, b, c, d, e, f, g, h]), Some((7, last))) =
+        (<[u8; 8]>::try_from(content), units.last())
+    else {
+        return 1;
+    };
+    let &[_, _, i, j, k, l] = &last[..] else {
+        return 1;
+    };
+    let upper = u32::from_be_bytes([a, b, c, d]);
+    let increment = u32::from_be_bytes([e, f, g, h]);
+    let lower = u32::from_be_bytes([i, j, k, l]);
+    match upper.checked_sub(lower) {
+        Some(span) if increment > 0 => u64::from(span / increment) + 1,
+        _ => 1,
     }
 }
 
@@ -76,9 +180,9 @@ fn change(random: &mut Random, fields: &mut Vec<Field>, other: &[u8]) {
             fields.insert(at + 1, new);
         }
         4 => fields[at] = field(random),
-        5 => fields[at].0 = random.pick(&[0, 1, 2, 3, 4, 5, 6, 7, 8, 9, 10, 11, 12, 255]),
+        5 => fields[at].0 = random.pick(&[0, 1, 2, 3, 4, 5, 6, 7, 8, 9, 10, 11, 12, 13, 255]),
         6 => {
-            let mut other = self::fields(other);
+            let mut other = uncounted(other);
             let from = random.below(other.len() + 1);
             other.drain(..from);
             fields.truncate(at + 1);
@@ -197,9 +301,13 @@ fn small_letters(random: &mut Random, fields: &mut [Field]) {
 
 /// Where one of the units stands, if there are any.
 fn any_unit(random: &mut Random, fields: &[Field]) -> Option<usize> {
-    let is_unit = |field: &Field| (7..=11).contains(&field.0);
     let found: Vec<usize> = (0..fields.len()).filter(|&n| is_unit(&fields[n])).collect();
     (!found.is_empty()).then(|| random.pick(&found))
+}
+
+/// Whether the field is a unit's.
+fn is_unit(field: &Field) -> bool {
+    (7..=11).contains(&field.0)
 }
 
 /// Repeats the element at or behind `at` some times.
@@ -209,7 +317,7 @@ fn repeat_element(random: &mut Random, fields: &mut Vec<Field>, at: usize) {
         return;
     };
     let mut end = start + 1;
-    while end < fields.len() && (7..=11).contains(&fields[end].0) {
+    while end < fields.len() && is_unit(&fields[end]) {
         end += 1;
     }
     let element = fields[start..end].to_vec();

@@ -145,7 +145,7 @@ mod tests {
     use crate::commands::command;
     use crate::compare::{Call, Outcome};
     use crate::random::Random;
-    use crate::records::{join, record};
+    use crate::records::{count, join, record};
     use crate::ROOM;
 
     /// What the model makes of a call.
@@ -180,6 +180,7 @@ mod tests {
     /// The command `A` with one place of this base whose value is this one unit.
     fn with_unit(base: u8, tag: u8, content: &[u8]) -> Vec<u8> {
         join(&[
+            count(1),
             (1, b"A".to_vec()),
             (2, b"P".to_vec()),
             (3, vec![base]),

@@ -11,7 +11,7 @@
 //! ```
 //! let mut record = [0; 128];
 //! let length = mml::read(b"SET-ATT:LIN=7-1&&-3,LEV=3.5;", b"DD", &mut record)?;
-//! assert_eq!(length, 77);
+//! assert_eq!(length, 84);
 //! assert_eq!(mml::count(&record[..length])?, 3);
 //!
 //! let mut order = [0; 128];
@@ -139,7 +139,8 @@ refusals! {
     16 TooMany "the value has over 4,096 arguments or the command over 65,535 orders";
     /// The buffer is too short. Place: the bytes needed.
     17 BufferTooShort "the buffer is too short";
-    /// The record is not well formed. Place: 0.
+    /// The record is not well formed; one that does not begin with the number of its orders is
+    /// none. Place: 0.
     18 Record "the record is not well formed";
     /// There is no order `k`. Place: the number of orders.
     19 NoOrder "there is no order with this number";
@@ -186,8 +187,8 @@ const fn value_of(answer: u64) -> Result<u32, Refusal> {
 }
 
 /// Reads one command; the n-th base letter, a capital, is the default base of the n-th place. A
-/// numeral's base prefix and letters may be typed small: the record holds capitals. Gives the
-/// length of the record.
+/// numeral's base prefix and letters may be typed small: the record holds capitals. It begins with
+/// the number of its orders. Gives the length of the record.
 pub fn read(text: &[u8], bases: &[u8], out: &mut [u8]) -> Result<usize, Refusal> {
     // SAFETY: each pointer and length are those of one slice, and only `out` is written.
     let answer = unsafe {
@@ -210,8 +211,8 @@ pub fn print(record: &[u8], out: &mut [u8]) -> Result<usize, Refusal> {
     value_of(answer).map(|length| length as usize)
 }
 
-/// Gives order `k` of a record, counted from 0, as a record. Gives its length, which is never
-/// more than the length of `record`.
+/// Gives order `k` of a record, counted from 0, as a record of one order. Gives its length, which
+/// is never more than the length of `record`.
 pub fn order(record: &[u8], k: u64, out: &mut [u8]) -> Result<usize, Refusal> {
     // SAFETY: each pointer and length are those of one slice, and only `out` is written.
     let answer = unsafe {
@@ -226,7 +227,8 @@ pub fn order(record: &[u8], k: u64, out: &mut [u8]) -> Result<usize, Refusal> {
     value_of(answer).map(|length| length as usize)
 }
 
-/// Gives the number of orders of a record.
+/// Gives the number of orders of a record: it is judged, and the number that it begins with is the
+/// answer.
 pub fn count(record: &[u8]) -> Result<u32, Refusal> {
     // SAFETY: pointer and length are those of one slice, and nothing is written.
     let answer = unsafe { mml_count(record.as_ptr(), record.len()) };

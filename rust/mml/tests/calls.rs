@@ -16,8 +16,9 @@ fn record() -> Vec<u8> {
 #[test]
 fn read_and_print() {
     let record = record();
-    assert_eq!(record.len(), 77);
-    assert_eq!(&record[..6], &[1, 0, 3, b'S', b'E', b'T']);
+    assert_eq!(record.len(), 84);
+    assert_eq!(&record[..7], &[12, 0, 4, 0, 0, 0, 3]);
+    assert_eq!(&record[7..13], &[1, 0, 3, b'S', b'E', b'T']);
     let mut text = [0; mml::TEXT_MAX];
     let length = mml::print(&record, &mut text).unwrap();
     assert_eq!(&text[..length], TEXT);
@@ -42,6 +43,7 @@ fn count_and_order() {
     let mut text = [0; mml::TEXT_MAX];
     for k in 0..3 {
         let length = mml::order(&record, k, &mut order).unwrap();
+        assert_eq!(mml::count(&order[..length]), Ok(1));
         let length = mml::print(&order[..length], &mut text).unwrap();
         let expected = format!("SET-ATT:LIN=7-{},LEV=3.5;", k + 1);
         assert_eq!(&text[..length], expected.as_bytes());
@@ -49,15 +51,28 @@ fn count_and_order() {
 }
 
 #[test]
+fn the_number_of_orders_that_a_record_begins_with() {
+    let mut record = record();
+    let mut text = [0; mml::TEXT_MAX];
+    assert_eq!(mml::count(&record[7..]), Err(Refusal::Record(0)));
+    for wrong in [0, 2, 4] {
+        record[6] = wrong;
+        assert_eq!(mml::count(&record), Err(Refusal::Record(0)));
+        assert_eq!(mml::print(&record, &mut text), Err(Refusal::Record(0)));
+        assert_eq!(mml::order(&record, 0, &mut text), Err(Refusal::Record(0)));
+    }
+}
+
+#[test]
 fn a_refused_call_writes_nothing() {
-    let mut out = [7; 76];
+    let mut out = [7; 83];
     let read = mml::read(TEXT, b"DD", &mut out);
-    assert_eq!(read, Err(Refusal::BufferTooShort(77)));
+    assert_eq!(read, Err(Refusal::BufferTooShort(84)));
     assert_eq!(mml::print(b"", &mut out), Err(Refusal::Record(0)));
     let order = mml::order(&record(), 3, &mut out);
     assert_eq!(order, Err(Refusal::NoOrder(3)));
     assert_eq!(mml::count(b"x"), Err(Refusal::Record(0)));
-    assert_eq!(out, [7; 76]);
+    assert_eq!(out, [7; 83]);
 }
 
 /// The reader's answer to a text without base letters, in a buffer of no bytes.
@@ -90,7 +105,7 @@ fn every_refusal_of_the_reader() {
     assert_eq!(refusal("A:9&&5;"), Refusal::Group(5));
     assert_eq!(refusal("A:::::::::;"), Refusal::Limit(9));
     assert_eq!(refusal("A:0&&4096;"), Refusal::TooMany(2));
-    assert_eq!(refusal("A;"), Refusal::BufferTooShort(4));
+    assert_eq!(refusal("A;"), Refusal::BufferTooShort(11));
 }
 
 #[test]

@@ -22,6 +22,30 @@ pub const IDENTIFIER: u8 = 9;
 pub const SYMBOLIC_NAME: u8 = 10;
 /// A string.
 pub const STRING: u8 = 11;
+/// The number of orders: the field that a record begins with.
+pub const COUNT: u8 = 12;
+
+/// The bytes that stand before the code.
+pub const COUNT_SIZE: usize = 7;
+
+/// The field that stands before the code.
+#[inline(always)]
+pub fn count(orders: u32) -> [u8; COUNT_SIZE] {
+    let [a, b, c, d] = orders.to_be_bytes();
+    [COUNT, 0, 4, a, b, c, d]
+}
+
+/// The number in the field before the code, and the fields from the code on; none if the record
+/// does not begin with that field.
+#[inline(always)]
+pub fn counted(record: &[u8]) -> Option<(u32, Fields<'_>)> {
+    match record {
+        [COUNT, 0, 4, a, b, c, d, rest @ ..] => {
+            Some((u32::from_be_bytes([*a, *b, *c, *d]), Fields { rest }))
+        }
+        _ => None,
+    }
+}
 
 /// The fields of a record from some field on.
 #[derive(Clone, Copy)]

@@ -136,10 +136,10 @@ fn choose_all(record: &[u8], k: u32, reductions: &mut [Reduction]) -> usize {
     size
 }
 
-/// Writes the record with each group replaced by the argument taken.
+/// Writes the record with each group replaced by the argument taken: it has one order.
 fn write(record: &[u8], reductions: &[Reduction], out: &mut [u8]) {
-    let mut from = 0;
-    let mut at = 0;
+    let mut from = fields::COUNT_SIZE;
+    let mut at = append(out, 0, &fields::count(1));
     for reduction in reductions {
         at = append(out, at, &record[from..reduction.group.start]);
         at = append(out, at, &[fields::SINGLE, 0, 0]);

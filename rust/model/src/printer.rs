@@ -52,7 +52,9 @@ impl Text {
 
     /// Prints a record that is well formed.
     fn command(&mut self, record: &[u8]) {
-        let mut walk = Fields { rest: record };
+        let mut walk = Fields {
+            rest: &record[fields::COUNT_SIZE..],
+        };
         self.pieces(fields::CODE_PIECE, &mut walk);
         while walk.tag() == fields::BLOCK {
             walk.take();

@@ -62,7 +62,7 @@ fn read_with<const N: usize>(text: &[u8], bases: &[u8], out: &mut [u8]) -> Resul
         tokens: &mut table[..count],
         contents: &mut contents,
         bases,
-        size: 0,
+        size: fields::COUNT_SIZE,
         places: 0,
         orders: 1,
         too_many: None,
@@ -265,6 +265,7 @@ impl Reader<'_> {
 
     /// Writes the record of a command that is judged.
     fn write(&self, writer: &mut Writer) {
+        writer.count(self.orders);
         let mut at = self.write_pieces(fields::CODE_PIECE, 0, writer);
         let mut places = 0;
         while self.tokens[at].kind == Kind::Colon {

@@ -18,25 +18,29 @@ pub struct Group {
     pub arguments: u32,
 }
 
-/// Judges a record and gives the number of its orders; none if it is not well formed. Each
-/// value that is not one single element is told to `group`, from the first to the last.
+/// Judges a record and gives the number of orders that it begins with; none if it is not well
+/// formed. Each value that is not one single element is told to `group`, from the first to the
+/// last.
 #[inline(always)]
 pub fn judge(record: &[u8], group: impl FnMut(Group)) -> Option<u32> {
+    let (count, fields) = fields::counted(record)?;
     let mut judge = Judge {
         record,
-        fields: Fields { rest: record },
+        fields,
         places: 0,
         orders: 1,
         group,
     };
     judge.command()?;
-    Some(judge.orders)
+    holds(judge.orders == count)?;
+    Some(count)
 }
 
 struct Judge<'r, G> {
     record: &'r [u8],
     fields: Fields<'r>,
     places: usize,
+    /// The product of the values' numbers of arguments.
     orders: u32,
     group: G,
 }

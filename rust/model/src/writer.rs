@@ -32,6 +32,12 @@ impl<'o> Writer<'o> {
         self.at += N;
     }
 
+    /// The number of orders.
+    #[inline]
+    pub fn count(&mut self, orders: u32) {
+        self.bytes(fields::count(orders));
+    }
+
     /// A field of any content; no content is longer than 80 bytes.
     #[inline]
     pub fn field(&mut self, tag: u8, content: &[u8]) {

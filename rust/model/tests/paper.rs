@@ -330,7 +330,7 @@ mod command_block_place {
             single(),
             numeral(b'D', 0, 1),
         ];
-        assert_eq!(record("A::N=1;", ""), expected.concat());
+        assert_eq!(record("A::N=1;", ""), one(&expected));
     }
 
     #[test]
@@ -431,13 +431,14 @@ mod the_record {
 
     #[test]
     fn the_example_of_77_bytes() {
-        let expected = hex(
+        let example = hex(
             "010003534554 010003415454 0200014E 03000144 0400034C494E 0600080000000300000001 \
              070006440000000007 070006440000000001 03000144 0400034C4556 050000 \
              070006440100000023",
         );
         let text = "SET-ATT:LIN=7-1&&-3,LEV=3.5;";
-        assert_eq!(expected.len(), 77);
+        assert_eq!(example.len(), 77);
+        let expected = counted(3, &[example]);
         assert_eq!(read(text, "DD"), Ok(expected.clone()));
         assert_eq!(print(&expected).as_deref(), Ok(text));
         assert_eq!(count(&expected), Ok(3));
@@ -483,15 +484,17 @@ mod the_record {
             numeral(b'O', 0, 5),
         ];
         let text = "A-B2:1F&K'*1#&GO&+1&\"a\"\"b\",:N-07=007-1&-2,M=O'5&&O'11++O'2;";
-        assert_eq!(record(text, "HDKD"), expected.concat());
-        assert_eq!(print(&expected.concat()).as_deref(), Ok(text));
+        let expected = counted(30, &expected);
+        assert_eq!(record(text, "HDKD"), expected);
+        assert_eq!(print(&expected).as_deref(), Ok(text));
     }
 
     #[test]
     fn leading_units_are_repeated_in_full() {
         assert_eq!(
             record("A:7-1&-3&&-5;", ""),
-            in_place(
+            group_in_place(
+                4,
                 b'D',
                 &[
                     single(),
@@ -552,7 +555,7 @@ mod the_printer {
     fn refuses_a_text_over_the_limit() {
         let string = field(11, &[b'x'; 80]);
         let place = [field(3, b"D"), single(), string.clone()].concat();
-        let mut long = [field(1, b"A"), field(2, b"P")].concat();
+        let mut long = one(&[field(1, b"A"), field(2, b"P")]);
         for _ in 0..12 {
             long.extend_from_slice(&place);
         }
@@ -784,11 +787,11 @@ mod refusals {
 
     #[test]
     fn the_buffer_too_short() {
-        let mut out = [7; 76];
+        let mut out = [7; 83];
         let answer = model::read(b"SET-ATT:LIN=7-1&&-3,LEV=3.5;", b"DD", &mut out);
         let refusal = answer.unwrap_err();
-        assert_eq!((refusal.number, refusal.place), (17, 77));
-        assert_eq!(out, [7; 76]);
+        assert_eq!((refusal.number, refusal.place), (17, 84));
+        assert_eq!(out, [7; 83]);
     }
 }
 

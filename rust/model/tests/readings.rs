@@ -149,7 +149,7 @@ mod code_places_names {
             single(),
             numeral(b'D', 0, 5),
         ];
-        assert_eq!(record("A:B-1-C-07=5;", ""), expected.concat());
+        assert_eq!(record("A:B-1-C-07=5;", ""), one(&expected));
     }
 
     #[test]

@@ -19,7 +19,7 @@ fn code(pieces: usize) -> Vec<u8> {
 
 fn named(rest: &[Vec<u8>]) -> Vec<u8> {
     let start = [field(1, b"A"), field(2, b"N"), field(3, b"D")];
-    [start.concat(), rest.concat()].concat()
+    one(&[start.concat(), rest.concat()])
 }
 
 fn five() -> Vec<u8> {
@@ -29,14 +29,15 @@ fn five() -> Vec<u8> {
 #[test]
 fn codes() {
     not_well_formed(b"");
+    not_well_formed(&one(&[]));
     for pieces in 1..=3 {
-        well_formed(&code(pieces));
+        well_formed(&one(&[code(pieces)]));
     }
-    not_well_formed(&code(4));
+    not_well_formed(&one(&[code(4)]));
     for piece in [&b""[..], b"1", b"A#", b"A ", b"+", b"A'1", &[b'A'; 33]] {
-        not_well_formed(&field(1, piece));
+        not_well_formed(&one(&[field(1, piece)]));
     }
-    well_formed(&field(1, &[b'A'; 32]));
+    well_formed(&one(&[field(1, &[b'A'; 32])]));
     not_well_formed(&in_place(b'D', &[field(1, b"A")]));
 }
 
@@ -60,9 +61,9 @@ fn fields_cut_off_or_left_over() {
 #[test]
 fn tags() {
     for tag in (0..=255u8).filter(|tag| *tag != 1) {
-        not_well_formed(&field(tag, b"A"));
+        not_well_formed(&one(&[field(tag, b"A")]));
         if tag != 2 {
-            not_well_formed(&[field(1, b"A"), field(tag, b"P")].concat());
+            not_well_formed(&one(&[field(1, b"A"), field(tag, b"P")]));
         }
     }
     for tag in (0..=255u8).filter(|tag| !(7..=11).contains(tag)) {
@@ -74,20 +75,20 @@ fn tags() {
 fn lengths_use_both_bytes() {
     let mut long = field(1, b"A");
     long[1] = 1;
-    not_well_formed(&long);
-    not_well_formed(&field(1, &[b'A'; 257]));
+    not_well_formed(&one(&[long]));
+    not_well_formed(&one(&[field(1, &[b'A'; 257])]));
     not_well_formed(&with_unit(b'D', field(11, &[b'x'; 257])));
 }
 
 #[test]
 fn blocks() {
-    not_well_formed(&[code(1), field(2, b"P")].concat());
+    not_well_formed(&one(&[code(1), field(2, b"P")]));
     for letter in [&b""[..], b"p", b"n", b"D", b"PP"] {
-        not_well_formed(&[code(1), field(2, letter), field(3, b"D")].concat());
+        not_well_formed(&one(&[code(1), field(2, letter), field(3, b"D")]));
     }
     let block = [field(2, b"P"), field(3, b"D")].concat();
-    well_formed(&[code(1), block.repeat(8)].concat());
-    not_well_formed(&[code(1), block.repeat(9)].concat());
+    well_formed(&one(&[code(1), block.repeat(8)]));
+    not_well_formed(&one(&[code(1), block.repeat(9)]));
 }
 
 #[test]
@@ -96,9 +97,9 @@ fn places() {
         well_formed(&in_place(letter, &[]));
     }
     for letter in [&b""[..], b"d", b"P", b"DD"] {
-        not_well_formed(&[code(1), field(2, b"P"), field(3, letter)].concat());
+        not_well_formed(&one(&[code(1), field(2, b"P"), field(3, letter)]));
     }
-    let places = |number| [code(1), field(2, b"P"), field(3, b"D").repeat(number)].concat();
+    let places = |number| one(&[code(1), field(2, b"P"), field(3, b"D").repeat(number)]);
     well_formed(&places(32));
     not_well_formed(&places(33));
 }
@@ -128,7 +129,10 @@ fn elements() {
     not_well_formed(&in_place(b'D', &[single()]));
     not_well_formed(&in_place(b'D', &[five()]));
     not_well_formed(&in_place(b'D', &[field(5, b"x"), five()]));
-    let elements = |number| in_place(b'D', &[[single(), five()].concat().repeat(number)]);
+    let elements = |number| {
+        let elements = [single(), five()].concat().repeat(number);
+        group_in_place(number as u32, b'D', &[elements])
+    };
     well_formed(&elements(64));
     not_well_formed(&elements(65));
 }
@@ -143,7 +147,7 @@ fn units_of_arguments() {
     let two = |first, second| {
         let first = [single(), five().repeat(first)].concat();
         let second = [single(), five().repeat(second)].concat();
-        in_place(b'D', &[first, second])
+        group_in_place(2, b'D', &[first, second])
     };
     well_formed(&two(2, 2));
     not_well_formed(&two(1, 2));
@@ -152,25 +156,29 @@ fn units_of_arguments() {
 
 #[test]
 fn ranges() {
-    let ranged = |upper, increment, lower| in_place(b'D', &[range(upper, increment), lower]);
-    well_formed(&ranged(5, 1, five()));
-    well_formed(&ranged(9, 7, five()));
-    well_formed(&ranged(u32::MAX, u32::MAX, five()));
-    well_formed(&ranged(9, 7, numeral(b'B', 0, 5)));
-    not_well_formed(&ranged(4, 1, five()));
-    not_well_formed(&ranged(9, 0, five()));
-    not_well_formed(&ranged(9, 1, numeral(b'D', 1, 5)));
-    not_well_formed(&ranged(9, 1, field(9, b"A")));
-    not_well_formed(&in_place(b'K', &[range(9, 1), field(8, b"5")]));
-    not_well_formed(&in_place(b'D', &[range(9, 1), five(), field(9, b"A")]));
-    well_formed(&in_place(b'D', &[range(9, 1), field(9, b"A"), five()]));
+    let ranged = |orders, upper, increment, lower| {
+        group_in_place(orders, b'D', &[range(upper, increment), lower])
+    };
+    well_formed(&ranged(1, 5, 1, five()));
+    well_formed(&ranged(1, 9, 7, five()));
+    well_formed(&ranged(1, u32::MAX, u32::MAX, five()));
+    well_formed(&ranged(1, 9, 7, numeral(b'B', 0, 5)));
+    not_well_formed(&ranged(0, 4, 1, five()));
+    not_well_formed(&ranged(1, 4, 1, five()));
+    not_well_formed(&ranged(1, 9, 0, five()));
+    not_well_formed(&ranged(5, 9, 1, numeral(b'D', 1, 5)));
+    not_well_formed(&ranged(1, 9, 1, field(9, b"A")));
+    not_well_formed(&group_in_place(5, b'K', &[range(9, 1), field(8, b"5")]));
+    let ended = |units: [Vec<u8>; 2]| group_in_place(5, b'D', &[range(9, 1), units.concat()]);
+    not_well_formed(&ended([five(), field(9, b"A")]));
+    well_formed(&ended([field(9, b"A"), five()]));
     for length in [0, 4, 7, 9] {
         let field = field(6, &vec![1; length]);
         not_well_formed(&in_place(b'D', &[field, numeral(b'D', 0, 0)]));
     }
-    well_formed(&ranged(4100, 1, five()));
-    not_well_formed(&ranged(4101, 1, five()));
-    not_well_formed(&ranged(u32::MAX, 1, numeral(b'D', 0, 0)));
+    well_formed(&ranged(4096, 4100, 1, five()));
+    not_well_formed(&ranged(4097, 4101, 1, five()));
+    not_well_formed(&ranged(0, u32::MAX, 1, numeral(b'D', 0, 0)));
 }
 
 #[test]
@@ -265,22 +273,22 @@ fn strings() {
 #[test]
 fn sizes() {
     let ranged = |upper| [range(upper, 1), numeral(b'D', 0, 0)].concat();
-    let places = |uppers: &[u32]| {
-        let mut record = [code(1), field(2, b"P")].concat();
+    let places = |orders, uppers: &[u32]| {
+        let mut parts = vec![code(1), field(2, b"P")];
         for &upper in uppers {
-            record.extend_from_slice(&[field(3, b"D"), ranged(upper)].concat());
+            parts.extend([field(3, b"D"), ranged(upper)]);
         }
-        record
+        counted(orders, &parts)
     };
-    well_formed(&places(&[4095]));
-    not_well_formed(&places(&[4096]));
-    well_formed(&places(&[254, 256]));
-    not_well_formed(&places(&[255, 255]));
-    not_well_formed(&places(&[4095; 32]));
+    well_formed(&places(4096, &[4095]));
+    not_well_formed(&places(4097, &[4096]));
+    well_formed(&places(65_535, &[254, 256]));
+    not_well_formed(&places(65_536, &[255, 255]));
+    not_well_formed(&places(0, &[4095; 32]));
     let two = [range(4094, 1), numeral(b'D', 0, 0), single(), five()];
-    well_formed(&in_place(b'D', &two));
+    well_formed(&group_in_place(4096, b'D', &two));
     let two = [range(4095, 1), numeral(b'D', 0, 0), single(), five()];
-    not_well_formed(&in_place(b'D', &two));
+    not_well_formed(&group_in_place(4097, b'D', &two));
 }
 
 /// No record is longer than this one, and the calls take it.
@@ -290,7 +298,7 @@ fn the_longest_record() {
     let index = |place: usize| field(4, format!("{place:032}").as_bytes());
     let name = |place| [field(4, &[b'N'; 32]).repeat(3), index(place)].concat();
     let element = [single(), field(11, &[b'x'; 80]).repeat(4)].concat();
-    let mut record = piece.repeat(3);
+    let mut record = counted(61_440, &[piece.repeat(3)]);
     for place in 0..32 {
         if place < 8 {
             record.extend_from_slice(&field(2, b"N"));
@@ -304,9 +312,9 @@ fn the_longest_record() {
         record.extend_from_slice(&name(place));
         record.extend_from_slice(&element.repeat(elements));
     }
-    assert_eq!(record.len(), 62_365);
+    assert_eq!(record.len(), 62_372);
     assert_eq!(count(&record), Ok(61_440));
     assert_eq!(print(&record), Err((2, 1024)));
     let order = order(&record, 61_439).unwrap();
-    assert_eq!(order.len(), 62_365 - (63 + 63 + 14) * 335);
+    assert_eq!(order.len(), 62_372 - (63 + 63 + 14) * 335);
 }

@@ -451,7 +451,7 @@ mod the_same_name_twice {
 
     /// The command `A` with one named block: a place with the value 1 for each name.
     fn named(names: &[&[&str]]) -> Vec<u8> {
-        let mut record = [field(1, b"A"), field(2, b"N")].concat();
+        let mut record = one(&[field(1, b"A"), field(2, b"N")]);
         for pieces in names {
             record.extend(field(3, b"D"));
             for piece in *pieces {
@@ -550,7 +550,8 @@ mod the_same_name_twice {
         ] {
             assert_eq!(count(&named(names)), Ok(1));
         }
-        let blocks = [named(&[&["N"]]), named(&[&["N"]])[4..].to_vec()].concat();
+        let block = &named(&[&["N"]])[11..];
+        let blocks = [&named(&[&["N"]]), block].concat();
         assert_eq!(print(&blocks).as_deref(), Ok("A:N=1:N=1;"));
     }
 
@@ -566,6 +567,230 @@ mod the_same_name_twice {
             let text = format!("A:{};", names.join(","));
             refused(&text, "", 21, text.rfind('N').unwrap());
         }
+    }
+}
+
+/// M-103.
+mod keep_the_order_count {
+    use super::*;
+
+    /// The bytes that stand before the code.
+    const HEAD: usize = 7;
+
+    const TEXT: &str = "SET-ATT:LIN=7-1&&-3,LEV=3.5;";
+
+    /// What a record of document 01 has, without the count: the example's 77 bytes.
+    fn example() -> Vec<u8> {
+        record(TEXT, "DD")[HEAD..].to_vec()
+    }
+
+    #[test]
+    fn a_record_begins_with_tag_12_four_bytes_the_number_of_its_orders() {
+        let expected = hex(
+            "0C000400000003 010003534554 010003415454 0200014E 03000144 0400034C494E \
+             0600080000000300000001 070006440000000007 070006440000000001 03000144 \
+             0400034C4556 050000 070006440100000023",
+        );
+        assert_eq!(expected.len(), 84);
+        assert_eq!(record(TEXT, "DD"), expected);
+        assert_eq!(count(&expected), Ok(3));
+        assert_eq!(print(&expected).as_deref(), Ok(TEXT));
+        assert_eq!(record("A;", ""), hex("0C000400000001 01000141"));
+    }
+
+    #[test]
+    fn the_reader_writes_the_product() {
+        for (text, orders) in [
+            ("A;", 1),
+            ("A:;", 1),
+            ("A:,,:;", 1),
+            ("A:5;", 1),
+            ("A:5&&5;", 1),
+            ("A:5&&9++7;", 1),
+            ("A:5&5;", 2),
+            ("A:5&&9++2&10;", 4),
+            ("A:1&2,,X:N=3&&7,M=0&1&9;", 30),
+            ("A:0&&255;", 256),
+            ("A:0&&4095;", 4096),
+            ("A:0&&4095,1&&15;", 61_440),
+            ("A:0&&254,0&&256;", 65_535),
+        ] {
+            let record = record(text, "");
+            assert_eq!(
+                record[..HEAD],
+                field(12, &u32::to_be_bytes(orders)),
+                "{text}"
+            );
+            assert_eq!(count(&record), Ok(orders), "{text}");
+        }
+    }
+
+    #[test]
+    fn each_order_carries_1() {
+        let record = record(TEXT, "DD");
+        for k in 0..3 {
+            let order = order(&record, k).unwrap();
+            assert_eq!(order[..HEAD], hex("0C000400000001"));
+            assert_eq!(count(&order), Ok(1));
+            assert_eq!(common::order(&order, 0), Ok(order.clone()));
+            assert_eq!(common::order(&order, 1), Err((19, 1)));
+        }
+        let expected = one(&[hex(
+            "010003534554 010003415454 0200014E 03000144 0400034C494E 050000 \
+             070006440000000007 070006440000000003 03000144 0400034C4556 050000 \
+             070006440100000023",
+        )]);
+        assert_eq!(order(&record, 2), Ok(expected));
+    }
+
+    /// The field is what the count answers, and no other field is taken.
+    #[test]
+    fn a_field_that_is_not_the_product() {
+        let product = 3;
+        for orders in (0..=300).chain([3 << 8, 3 << 16, 3 << 24, 65_536 + 3, u32::MAX]) {
+            let record = counted(orders, &[example()]);
+            if orders == product {
+                assert_eq!(count(&record), Ok(product));
+            } else {
+                not_well_formed(&record);
+            }
+        }
+        for (text, orders) in [("A;", 1), ("A:;", 1), ("A:0&&254,0&&256;", 65_535)] {
+            let rest = [record(text, "")[HEAD..].to_vec()];
+            assert_eq!(count(&counted(orders, &rest)), Ok(orders));
+            for wrong in [0, orders - 1, orders + 1, u32::MAX] {
+                not_well_formed(&counted(wrong, &rest));
+            }
+        }
+    }
+
+    /// A record over a limit stays so, whatever its field says.
+    #[test]
+    fn a_product_over_the_limit() {
+        let places = |number| {
+            [field(3, b"D"), range(255, 1), numeral(b'D', 0, 0)]
+                .concat()
+                .repeat(number)
+        };
+        let rest = |number| [field(1, b"A"), field(2, b"P"), places(number)].concat();
+        assert_eq!(count(&counted(256, &[rest(1)])), Ok(256));
+        for orders in [0, 1, 256, 65_535, 65_536, u32::MAX] {
+            not_well_formed(&counted(orders, &[rest(2)]));
+            not_well_formed(&counted(orders, &[rest(4)]));
+            not_well_formed(&counted(orders, &[rest(32)]));
+        }
+    }
+
+    #[test]
+    fn a_record_that_lacks_it() {
+        assert_eq!(example().len(), 77);
+        not_well_formed(&example());
+        not_well_formed(&field(1, b"A"));
+        not_well_formed(b"");
+    }
+
+    #[test]
+    fn a_field_of_another_length() {
+        for content in [&b""[..], b"\x03", b"\0\x03", b"\0\0\x03", b"\0\0\0\0\x03"] {
+            not_well_formed(&[field(12, content), example()].concat());
+        }
+        not_well_formed(&[field(12, &[0; 256]), example()].concat());
+        let mut long = record(TEXT, "DD");
+        for (high, low) in [(0, 3), (0, 5), (1, 4), (4, 0), (255, 255)] {
+            long[1..3].copy_from_slice(&[high, low]);
+            not_well_formed(&long);
+        }
+    }
+
+    #[test]
+    fn another_tag_in_its_place() {
+        for tag in 0..=255 {
+            let record = [field(tag, b"\0\0\0\x03"), example()].concat();
+            if tag == 12 {
+                assert_eq!(count(&record), Ok(3));
+            } else {
+                not_well_formed(&record);
+            }
+        }
+    }
+
+    #[test]
+    fn the_field_anywhere_else() {
+        let head = field(12, b"\0\0\0\x03");
+        let mut behind = 0;
+        for (_, content) in fields(&example()) {
+            behind += 3 + content.len();
+            let (before, rest) = (&example()[..behind], &example()[behind..]);
+            not_well_formed(&[before, &head, rest].concat());
+            not_well_formed(&[&head, before, &head, rest].concat());
+        }
+        assert_eq!(behind, 77);
+    }
+
+    #[test]
+    fn the_field_twice_or_alone() {
+        let head = field(12, b"\0\0\0\x03");
+        not_well_formed(&[&head[..], &head, &example()].concat());
+        for orders in [0, 1, 3] {
+            assert_eq!(counted(orders, &[]).len(), HEAD);
+            not_well_formed(&counted(orders, &[]));
+        }
+    }
+
+    #[test]
+    fn a_field_cut_off() {
+        for orders in [1, 3] {
+            for length in 0..HEAD {
+                let cut = &counted(orders, &[])[..length];
+                not_well_formed(cut);
+                not_well_formed(&[cut, &example()].concat());
+                not_well_formed(&[cut, &field(1, b"A")].concat());
+            }
+        }
+    }
+
+    #[test]
+    fn the_place_of_17_counts_the_seven_bytes() {
+        let mut out = [0x5A; 84];
+        let read = |out: &mut [u8]| model::read(TEXT.as_bytes(), b"DD", out);
+        for room in [0, 6, 7, 76, 77, 83] {
+            let refusal = read(&mut out[..room]).unwrap_err();
+            assert_eq!((refusal.number, refusal.place), (17, 84));
+        }
+        assert_eq!(out, [0x5A; 84]);
+        assert_eq!(read(&mut out), Ok(84));
+        let record = record(TEXT, "DD");
+        let mut out = [0x5A; 76];
+        let order = |out: &mut [u8]| model::order(&record, 1, out);
+        for room in [0, 6, 7, 69, 75] {
+            let refusal = order(&mut out[..room]).unwrap_err();
+            assert_eq!((refusal.number, refusal.place), (17, 76));
+        }
+        assert_eq!(out, [0x5A; 76]);
+        assert_eq!(order(&mut out), Ok(76));
+    }
+
+    /// The text is what it was, and its length.
+    #[test]
+    fn the_printer_does_not_show_it() {
+        let record = record("A:1&2;", "");
+        let mut out = [0; 6];
+        let refusal = model::print(&record, &mut out[..5]).unwrap_err();
+        assert_eq!((refusal.number, refusal.place), (17, 6));
+        assert_eq!(model::print(&record, &mut out), Ok(6));
+        assert_eq!(&out, b"A:1&2;");
+    }
+
+    #[test]
+    fn without_it_18_goes_before_19_and_2() {
+        assert_eq!(order(&example(), 3), Err((18, 0)));
+        assert_eq!(order(&counted(4, &[example()]), 3), Err((18, 0)));
+        assert_eq!(order(&counted(3, &[example()]), 3), Err((19, 3)));
+        let places = [field(3, b"D"), single(), field(11, &[b'x'; 80])].concat();
+        let long = [field(1, b"A"), field(2, b"P"), places.repeat(13)];
+        assert_eq!(print(&one(&long)), Err((2, 1024)));
+        assert_eq!(print(&counted(2, &long)), Err((18, 0)));
+        assert_eq!(print(&long.concat()), Err((18, 0)));
     }
 }
 

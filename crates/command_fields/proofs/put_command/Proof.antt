@@ -1,5 +1,6 @@
--- `put_command` meets its contract: the tokens before the first `;` are the rule's command.
+-- `put_command` meets its contract: the head is written, then the rule's command behind it, which is the tokens before the first `;`.
 use borrow.Author.Needs.{needs}
+use native.Mathlib.Omega.{arith}
 use Rattle.token_table.proofs.FindLaws.{taken}
 use Rattle.command_fields.proofs.BlockLaws.{command-inside, command-segments, command-put}
 use Rattle.command_fields.proofs.put_command.Statement.{statement}
@@ -14,7 +15,20 @@ put-segments-requires c κs = search (needs, command-segments)
 returns : tie.Need-returns
 returns c = search (needs, command-put)
 
+add-result : tie.Need-add-result
+add-result c = let s : tie.Start = search in let w = s .pre in omega (arith, returns c (w .end) (w .c) (w .is) .0, w .fits, s .good .0 .0)
+
 pub put-command-spec : {M : Type 1} → statement M
 put-command-spec =
     tie.close
-    (tie.spec (λ c κs. search needs) slice-aggregate-put-segments put-segments-requires (λ c. search needs) returns)
+    (tie.spec
+    (λ c κs. search needs)
+    (λ c κs. search needs)
+    (λ c. search needs)
+    (λ c. search needs)
+    (λ c. search needs)
+    slice-aggregate-put-segments
+    put-segments-requires
+    add-result
+    (λ c. search needs)
+    returns)

@@ -1,5 +1,5 @@
 -- `count` meets its contract: the judge's answer is the count, or the refusal.
-use Rattle.judge.proofs.RecordBytes.{counts-good, counts-bad}
+use Rattle.judge.proofs.HeadBytes.{counts-good, counts-bad}
 use borrow.Author.Needs.{needs}
 use Rattle.judge.proofs.count.Statement.{statement}
 use Rattle.judge.proofs.count.Tie as tie

@@ -1,6 +1,6 @@
 -- `order` meets its contract: the judge's answer gives the command and its row; made the plan of order k, the reduced record is order k's.
 use borrow.Author.Needs.{needs}
-use Rattle.order.proofs.AnswerLaws.{order-bad, judged-row, judged-count, judged-cut, judged-told, order-past, front-inside, front-cut, front-planned, order-at}
+use Rattle.order.proofs.AnswerLaws.{order-bad, judged-row, judged-count, judged-cut, head-room, judged-told, order-past, front-inside, front-cut, front-planned, order-at}
 use Rattle.order.proofs.order.Statement.{statement}
 use Rattle.order.proofs.order.Tie as tie
 
@@ -12,6 +12,9 @@ returns-2 c = search (needs, order-past)
 
 mul-told : tie.Need-mul-told
 mul-told c = search (needs, judged-count)
+
+sub-body : tie.Need-sub-body
+sub-body c = search (needs, head-room)
 
 array-borrow-prefix-row : tie.Need-array-borrow-prefix-row
 array-borrow-prefix-row c = search (needs, judged-row)
@@ -46,6 +49,9 @@ order-spec =
     (λ c. search needs)
     returns-2
     mul-told
+    sub-body
+    sub-body
+    (λ c. search needs)
     array-borrow-prefix-row
     slice-aggregate-positions
     (λ c. search needs)

@@ -32,6 +32,9 @@ segments-spec =
     (λ c. search needs)
     slice-aggregate-pieces-len
     (λ c κs. search needs)
+    (λ c. search needs)
+    (λ c. search needs)
+    (λ c κs. search needs)
     add-read-blocks
     (λ c κs. search needs)
     (λ c κs. search needs)

@@ -10,8 +10,8 @@ returns c = search (needs, tokens-short)
 put-command-requires : tie.Need-put-command-requires
 put-command-requires c κs = search (needs, tokens-fit)
 
-cast-t16 : tie.Need-cast-t16
-cast-t16 c = search (needs, tokens-answer)
+cast-t17 : tie.Need-cast-t17
+cast-t17 c = search (needs, tokens-answer)
 
 returns-2 : tie.Need-returns-2
 returns-2 c = search (needs, tokens-refused)
@@ -29,7 +29,7 @@ put-record-spec =
     (λ c. search needs)
     returns
     put-command-requires
-    cast-t16
+    cast-t17
     returns-2
     (λ c. search needs)
     returns-3)

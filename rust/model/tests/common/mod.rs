@@ -182,10 +182,26 @@ pub fn single() -> Vec<u8> {
     field(5, b"")
 }
 
-/// The command `A` with one place of this base, its fields behind the place's.
+/// A record that says so many orders before these fields.
+pub fn counted(orders: u32, rest: &[Vec<u8>]) -> Vec<u8> {
+    [field(12, &orders.to_be_bytes()), rest.concat()].concat()
+}
+
+/// A record that says one order before these fields.
+pub fn one(rest: &[Vec<u8>]) -> Vec<u8> {
+    counted(1, rest)
+}
+
+/// The command `A` with one place of this base, its fields behind the place's, and one order.
 pub fn in_place(base: u8, rest: &[Vec<u8>]) -> Vec<u8> {
+    group_in_place(1, base, rest)
+}
+
+/// The command `A` with one place of this base, its fields behind the place's, and so many
+/// orders.
+pub fn group_in_place(orders: u32, base: u8, rest: &[Vec<u8>]) -> Vec<u8> {
     let start = [field(1, b"A"), field(2, b"P"), field(3, &[base])];
-    [start.concat(), rest.concat()].concat()
+    counted(orders, &[start.concat(), rest.concat()])
 }
 
 /// The command `A` with one place of this base whose value is this one unit.
