@@ -108,8 +108,10 @@
  * and so on, none above upper. In an order every element is single, and every value has one.
  *
  * The number of orders is the product of the values' numbers of arguments; an omitted place
- * counts one. A record with another number, or without this field, as version 1 wrote them, is
- * not well formed. An order has the number 1.
+ * counts one. A record with another number, or without this field, is not well formed. An order
+ * has the number 1. Version 1 wrote records without this field: put before each of them these
+ * 7 bytes, with the number that mml_count of version 1.3 gives, and it is the record that is
+ * written now.
  *
  * A word has at most 32 characters, a string at most 80 bytes, a value at most 4,096
  * arguments, a command at most 65,535 orders. The letters of the places (tag 3), in their
