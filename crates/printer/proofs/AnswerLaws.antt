@@ -11,7 +11,7 @@ use Rattle.rules.specs.Refusals.{Res, ok, bad, mapR, tooLong, noRoom, notWellFo
 use Rattle.rules.specs.Commands.{Command}
 use Rattle.rules.specs.Records.{headSize}
 use Rattle.rules.specs.WellFormed.{recordOf, bodyOf, wellFormedBody}
-use Rattle.rules.specs.Answers.{answered, buffered, printing, Prints}
+use Rattle.rules.specs.Answers.{answered, buffered, fitted, printed, printing, Prints}
 use Rattle.rules.specs.Printing.{print}
 use Rattle.rules.specs.declared.Answer.{Answer}
 use Rattle.rules.specs.declared.Answer.the-variants.{Done, Refused}
@@ -22,7 +22,7 @@ use Rattle.judge.specs.declared.Judged.the-variants.{Good, Bad}
 use Rattle.judge.specs.Judged.{IsGood, Judges}
 use Rattle.print_bound.specs.Bounds.{TextWithin}
 use Rattle.print_text.specs.Texts.{textOf}
-use Rattle.printer.specs.Given.{given, Gives}
+use Rattle.printer.specs.Given.{Gives}
 
 -- ---- bounds
 
@@ -40,7 +40,7 @@ short-text rec h = omega (arith, text-within rec (body-bound rec))
 -- ---- the answers
 
 module _ (text old : List ℕ) where
-  promised : (result : Res (List ℕ)) → given text old ≡ result → Gives text old (answered (mapR length result)) (buffered result old)
+  promised : (result : Res (List ℕ)) → fitted old (printed text) ≡ result → Gives text old (answered (mapR length result)) (buffered result old)
   promised result e = record { answers = rw e; holds = rw e }
 
   pub answer-long : {n : ℕ} → n ≡ length text → mostText < n → Gives text old (Refused tooLong mostText) old
