@@ -3,15 +3,17 @@ use record_walk::COUNT;
 use record_walk::HEADER;
 use record_walk::NUMBER;
 ghost use mathlib.Core.Path.{_≡_};
-ghost use mathlib.Core.List.{[], _∷_};
 ghost use Prim.Native.Nat.{_≤_};
 ghost use lib.ListN.{length};
 ghost use Rattle.laws.specs.Over.{over};
-ghost use Rattle.rules.specs.Records.{countTag, headSize, headBytes, countIn};
+ghost use Rattle.rules.specs.Records.{headSize, headBytes, countIn};
 ghost use Rattle.record_head.specs.Heads.{Begins};
 
 // The bytes of a head: the code begins behind them.
 pub const HEAD: usize = HEADER + NUMBER;
+
+// The bytes of its content.
+const CONTENT: u16 = NUMBER as u16;
 
 // Whether bytes begin with a head.
 pub fn begins(rec: &[u8]) -> bool
@@ -37,21 +39,11 @@ pub fn orders(rec: &[u8]) -> u32
     record_walk::number_at(rec, HEADER)
 }
 
-// Writes what stands before the number: the tag, and its length in two bytes.
-fn put_header(out: &mut [u8])
-    requires { ⌜ 3 ≤ length (now out) ⌝ }
-    ensures { λ r. ⌜ now (out .exit) ≡ over (countTag ∷ 0 ∷ 4 ∷ []) (now (out .entry)) ⌝ }
-{
-    out[0] = COUNT;
-    out[1] = 0;
-    out[2] = NUMBER as u8;
-}
-
 // Writes a head with the number of orders.
 pub fn put_head(out: &mut [u8], orders: u32)
     requires { ⌜ headSize ≤ length (now out) ⌝ }
     ensures { λ r. ⌜ now (out .exit) ≡ over (headBytes orders) (now (out .entry)) ⌝ }
 {
-    put_header(out);
+    fields::put_header(out, COUNT, CONTENT);
     record_walk::put_number(&mut out[HEADER..], orders);
 }
