@@ -143,7 +143,7 @@ pub fn write_phrase(
 16 o with this value there are $n orders
 17 . the buffer is too short for so many bytes
 18 . the record is not well formed
-18 r a record is what the verb record writes, whole and unchanged
+18 r a record is what the verb record writes, whole and unchanged, from 0C0004 on
 19 . there are only so many orders, counted from 0
 19 1 there is 1 order, number 0
 19 n there are $n orders, 0 to $m
