@@ -7,13 +7,14 @@
  *
  * A record is the same command as tagged fields, ready for a program. An order is a record in
  * which each group of arguments is reduced to one argument; the command above has three
- * orders. There are five calls:
+ * orders. There are six calls:
  *
  *     mml_key     keeper and key         ->  keeper, and whether its line is ready
  *     mml_read    text and base letters  ->  record
  *     mml_print   record                 ->  text
  *     mml_count   record                 ->  number of orders
  *     mml_order   record and k           ->  order number k, as a record
+ *     mml_list    record                 ->  all orders, each behind its length
  *
  * ANSWERS. Each call answers one 64-bit number: a refusal number times 2^32, plus a value.
  * Take it apart with MML_NUMBER and MML_VALUE.
@@ -52,8 +53,8 @@
  *
  * THREADS AND MEMORY. The library has no state and allocates nothing: any number of threads
  * may call at once, also from an interrupt or a signal handler that has the stack for it:
- * mml_read takes less than 16 KiB, mml_key less than 3 KiB, every other call less than 1 KiB, by
- * the frames of the compiled code.
+ * mml_read takes less than 16 KiB, mml_key less than 3 KiB, mml_list less than 1,536 bytes, every
+ * other call less than 1 KiB, by the frames of the compiled code.
  *
  * LINKING. libmml.a is x86-64 code for Linux. It calls two functions that it does not have,
  * memcpy and memset, which every C library has; without a C library, give it them.
@@ -63,8 +64,10 @@
  *     mml_read    MML_RECORD_MAX bytes
  *     mml_print   MML_TEXT_MAX bytes
  *     mml_order   record_len bytes: an order is never longer than its record
+ *     mml_list    record_len + 7 bytes for each order
  *
- * With less, refusal 17 tells the bytes needed: call first with out_len 0 to learn the size.
+ * With less, refusal 17 tells the bytes needed: call first with out_len 0 to learn the size. Ask so
+ * for a list: that of the command A:0&&4094,0&&15; has 3,538,080 bytes.
  *
  * RECORDS. A record is a sequence of fields:
  *
@@ -121,6 +124,24 @@
  * A record that comes from elsewhere may be anything. Every call judges all of it first and
  * answers MML_RECORD where it is not well formed; where mml_count succeeds, the tags, lengths
  * and contents are as said here, and its answer is the number in the first field.
+ *
+ * LISTS. A list is the orders of a record, one behind the other from order 0 on, as many as
+ * mml_count answers. Before each stands its length in 7 bytes, a field like those of a record:
+ *
+ *     3 bytes  14 (MML_TAG_LENGTH), 0, 4
+ *     4 bytes  the length of the order alone, high byte first
+ *     order    so many bytes: what mml_order gives
+ *
+ * So a list is walked from length to length, and the k-th step is at order k:
+ *
+ *     for (at = 0; at < list_len; at += 7 + length) {
+ *         length = (uint32_t)list[at + 3] << 24 | (uint32_t)list[at + 4] << 16
+ *                  | (uint32_t)list[at + 5] << 8 | list[at + 6];
+ *         mml_print(list + at + 7, length, ...);
+ *     }
+ *
+ * The field length stands in lists alone: a list is no record, and a record with this field is
+ * not well formed. examples/c/list.c walks a list.
  */
 
 #ifndef MML_H
@@ -134,9 +155,9 @@ extern "C" {
 #endif
 
 /* The version of the interface. */
-#define MML_VERSION "2.0"
+#define MML_VERSION "2.1"
 #define MML_VERSION_MAJOR 2
-#define MML_VERSION_MINOR 0
+#define MML_VERSION_MINOR 1
 
 /* The longest text that is read or printed, and the longest line that is kept, in bytes. */
 #define MML_TEXT_MAX 1024u
@@ -166,7 +187,8 @@ extern "C" {
  * The refusals. "Place" is counted in bytes of the text from 0 unless said otherwise.
  *
  *    mml_read answers the first of 1 to 17 and 21 that applies, 21 between 10 and 11;
- *    mml_print 18, 2 or 17, mml_order 18, 19 or 17, mml_count 18, mml_key 20.
+ *    mml_print 18, 2 or 17, mml_order 18, 19 or 17, mml_count 18, mml_list 18 or 17,
+ *    mml_key 20.
  */
 enum {
     MML_DONE = 0,
@@ -259,6 +281,9 @@ enum {
     MML_TAG_ORDERS = 12
 };
 
+/* The tag of an order's length in a list; LISTS above says what it holds. No record has it. */
+enum { MML_TAG_LENGTH = 14 };
+
 /*
  * A line keeper: the line that it holds is the first count of its bytes. With count 0 it is
  * empty, whatever its bytes are. The bytes behind the line are of no account, and a key changes
@@ -308,6 +333,16 @@ uint64_t mml_order(const uint8_t *record, size_t record_len, uint64_t k,
  * call, and the answer is the number in its first field. Writes nothing.
  */
 uint64_t mml_count(const uint8_t *record, size_t record_len);
+
+/*
+ * Writes all orders of a record, one behind the other, each behind its length; LISTS above says
+ * how. Refuses a record that is not well formed with 18, then an out that is too short with 17,
+ * whose place is the bytes that the whole list needs; nothing is written then. So a call with
+ * out_len 0 tells the size, which is below 2^32, and unrolls no group for it. The record is judged
+ * once, and an order costs less than by mml_order.
+ */
+uint64_t mml_list(const uint8_t *record, size_t record_len,
+                  uint8_t *out, size_t out_len);
 
 #ifdef __cplusplus
 }

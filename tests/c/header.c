@@ -20,6 +20,8 @@ static const unsigned tags[] = {
     MML_TAG_KEYED, MML_TAG_IDENTIFIER, MML_TAG_SYMBOLIC_NAME, MML_TAG_STRING, MML_TAG_ORDERS
 };
 
+static const unsigned length_tag = MML_TAG_LENGTH;
+
 /* Is each of the numbers its own index? */
 static int count_up(const unsigned *numbers, size_t n)
 {
@@ -64,12 +66,13 @@ static int kept(void)
 static int linked(void)
 {
     return MML_NUMBER(mml_read(NULL, 0, NULL, 0, NULL, 0)) == MML_NO_END && MML_NUMBER(mml_print(NULL, 0, NULL, 0)) == MML_RECORD
-           && MML_NUMBER(mml_order(NULL, 0, 0, NULL, 0)) == MML_RECORD && MML_NUMBER(mml_count(NULL, 0)) == MML_RECORD;
+           && MML_NUMBER(mml_order(NULL, 0, 0, NULL, 0)) == MML_RECORD && MML_NUMBER(mml_count(NULL, 0)) == MML_RECORD
+           && MML_NUMBER(mml_list(NULL, 0, NULL, 0)) == MML_RECORD;
 }
 
 int main(void)
 {
-    if (!count_up(refusals, sizeof refusals / sizeof refusals[0]) || !count_up(tags, sizeof tags / sizeof tags[0]))
+    if (!count_up(refusals, sizeof refusals / sizeof refusals[0]) || !count_up(tags, sizeof tags / sizeof tags[0]) || length_tag != 14)
         return 1;
     if (version[0] - '0' != MML_VERSION_MAJOR || version[1] != '.' || version[2] - '0' != MML_VERSION_MINOR || version[3] != 0)
         return 2;

@@ -16,6 +16,9 @@ enum { SPARE = 16, FILLING = 0x3C };
 /* The bytes of the field orders, which a record begins with. */
 enum { ORDERS_LEN = 7 };
 
+/* The bytes of the field length, which stands before each order of a list. */
+enum { LENGTH_LEN = 7 };
+
 static const struct {
     const char *text;
     const char *bases;
@@ -24,6 +27,7 @@ static const struct {
     { "A;", "" },
     { "A:;", "K" },
     { "A:0&&4094,0&&15;", "" },
+    { "A:5&UP&\"a b\",,7-1&&-3:N=8&&9++3&X;", "" },
     { "CHANGE-TRUNK-GROUP:ROUTE=7-1&&-3&-5&-9&8-2&-5&-6&9-1&&-7++2,LEV=3.5&4.25,OWNER=\"South \"\"B\"\" wing\",P=K'*21#,THR=10%"
       ":1,,UPD8,B'1010,O'777,1-2-3-1&-2&-3&-4&-5&-6&-7&-8,CENTRAL,WEST;",
       "DDDDDHHHHHHHH" },
@@ -138,7 +142,7 @@ static void see_the_watch(void)
 
 /* A call: what it is, and its inputs. */
 struct call {
-    enum { READ, PRINT, ORDER, COUNT } kind;
+    enum { READ, PRINT, ORDER, COUNT, LIST } kind;
     const uint8_t *first, *second;
     size_t first_len, second_len;
     uint64_t k;
@@ -155,6 +159,8 @@ static uint64_t made(const struct call *call, const uint8_t *first, const uint8_
         return mml_print(first, call->first_len, out, room);
     case ORDER:
         return mml_order(first, call->first_len, call->k, out, room);
+    case LIST:
+        return mml_list(first, call->first_len, out, room);
     default:
         return mml_count(first, call->first_len);
     }
@@ -217,6 +223,7 @@ static void try_record(const uint8_t *bytes, size_t len)
     uint64_t count = try_call((struct call){ COUNT, bytes, NULL, len, 0, 0 });
 
     try_call((struct call){ PRINT, bytes, NULL, len, 0, 0 });
+    try_call((struct call){ LIST, bytes, NULL, len, 0, 0 });
     try_call((struct call){ ORDER, bytes, NULL, len, 0, 0 });
     if (MML_NUMBER(count) != MML_DONE)
         return;
@@ -309,6 +316,9 @@ static void try_null(void)
     is(mml_order(one, sizeof one, 1, NULL, 0), MML_NO_ORDER, 1);
     is(mml_order(NULL, 0, 0, NULL, 0), MML_RECORD, 0);
     is(mml_count(NULL, 0), MML_RECORD, 0);
+    is(mml_list(NULL, 0, out, sizeof out), MML_RECORD, 0);
+    is(mml_list(one, sizeof one, NULL, 0), MML_BUFFER_TOO_SHORT, LENGTH_LEN + sizeof one);
+    is(mml_list(NULL, 0, NULL, 0), MML_RECORD, 0);
 }
 
 int main(void)

@@ -13,11 +13,11 @@
 
 #include "mml.h"
 
-enum { ROOM = 1 << 18, PAINT = 0x5C, KIBIBYTE = 1024 };
-enum { READ, PRINT, ORDER, COUNT, KEY, CALLS };
+enum { ROOM = 1 << 18, PAINT = 0x5C, KIBIBYTE = 1024, LIST_ROOM = 1 << 22 };
+enum { READ, PRINT, ORDER, COUNT, LIST, KEY, CALLS };
 
-/* Each call, and the bytes of stack that it may take: the reader has its tables of tokens there, a key copies of its keeper, the others a
-   row of 32 numbers at most. */
+/* Each call, and the bytes of stack that it may take: the reader has its tables of tokens there, a key copies of its keeper, a list two
+   rows of 96 numbers, the others one at most. */
 static const struct {
     const char *name;
     size_t allowed;
@@ -26,6 +26,7 @@ static const struct {
     [PRINT] = { "print", KIBIBYTE },
     [ORDER] = { "order", KIBIBYTE },
     [COUNT] = { "count", KIBIBYTE },
+    [LIST] = { "list", 3 * KIBIBYTE / 2 },
     [KEY] = { "key", 3 * KIBIBYTE },
 };
 
@@ -64,6 +65,7 @@ static const uint8_t removing_keys[] = { MML_KEY_BS, MML_KEY_CAN };
 static uint8_t text[MML_TEXT_MAX];
 static uint8_t record[MML_RECORD_MAX];
 static uint8_t out[MML_RECORD_MAX];
+static uint8_t list[LIST_ROOM];
 static size_t text_len, record_len;
 static uint64_t k, answer;
 static mml_keeper keeper;
@@ -95,6 +97,9 @@ static void run(void)
         break;
     case ORDER:
         answer = mml_order(record, record_len, k, out, sizeof out);
+        break;
+    case LIST:
+        answer = mml_list(record, record_len, list, sizeof list);
         break;
     case KEY:
         answer = mml_key(&keeper, key);
@@ -150,7 +155,7 @@ static void measure(size_t most[CALLS], unsigned number)
 /* Runs every call of commands on what was taken up. */
 static void measure_command(size_t most[CALLS])
 {
-    for (call = READ; call <= COUNT; call++)
+    for (call = READ; call <= LIST; call++)
         measure(most, MML_DONE);
 }
 

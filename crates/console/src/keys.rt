@@ -3,7 +3,6 @@ use console_lines::BLOCK;
 use console_replies::Outcome;
 use console_typing::Key;
 use console_words::Manner;
-use console_words::Verb;
 use rules::Answer;
 
 // The value of the answer to a key that leaves the line not ready.
@@ -81,7 +80,7 @@ fn tell(
 // Answers a line that is ready, below its row, and asks for the next.
 fn serve_ready(manner: Manner, columns: u64, bases: &[u8], line: &[u8]) -> Outcome {
     if console_typing::show(manner, columns, line) && console_typing::end_row(manner) {
-        let outcome = crate::verbs::serve(Verb::Check, bases, line, line.len());
+        let outcome = crate::verbs::check(bases, line);
         return ask(manner, columns, b"", outcome);
     }
     Outcome::Failed
@@ -125,7 +124,7 @@ fn serve_left(manner: Manner, bases: &[u8], line: &[u8], last: Answer) -> Outcom
         if is_ready(last) || console_typing::is_blank(line) {
             return Outcome::Served;
         }
-        return crate::verbs::serve(Verb::Check, bases, line, line.len());
+        return crate::verbs::check(bases, line);
     }
     Outcome::Failed
 }

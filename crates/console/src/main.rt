@@ -7,7 +7,7 @@
 //             told   at the end one digit goes to descriptor 3, where the script reads it
 //             typed  the same, and a prompt stands on standard error before each line; of `keys`
 //                    the bytes are those of a terminal on which each key acts at once
-//     VERB    check, record, orders, order, keys, text or bases
+//     VERB    check, record, orders, list, order, keys, text or bases
 //     K       the order that `order` asks for; of `keys` the columns of the terminal; the other
 //             verbs do not use it
 //     BASES   the base letters, perhaps none
@@ -17,6 +17,8 @@
 mod keys;
 mod verbs;
 
+ghost use mathlib.Core.Path.{_≡_};
+ghost use lib.ListN.{length};
 use console_lines::BLOCK;
 use console_lines::Got;
 use console_lines::Input;
@@ -31,6 +33,8 @@ const COMMAND_LINE: usize = rules::MOST_TEXT + 1;
 const RECORD_LINE: usize = 131072;
 // Of a list of bases that is longer than the longest, too, one letter more is kept.
 const BASES: usize = rules::MOST_LETTERS + 1;
+// The longest list that is written, half of what a stack most often has. `hint_phrases` says this number to the operator.
+const MOST_LIST: usize = 4194304;
 
 // Serves what the words ask, and tells what came of it.
 fn main() {
@@ -52,8 +56,30 @@ fn main() {
     }
 }
 
-// Serves each line as a command.
+// Serves each line as a command. One verb alone needs room for a list.
 fn serve_commands(manner: Manner, verb: Verb) -> Outcome {
+    let mut none = [0u8; 0];
+    match verb {
+        Verb::List => serve_lists(manner),
+        _ => serve_with(manner, verb, &mut none),
+    }
+}
+
+// Serves each line as a command whose orders are to be listed. All lists use the same room.
+fn serve_lists(manner: Manner) -> Outcome {
+    let mut room = list_buffer();
+    serve_with(manner, Verb::List, &mut room)
+}
+
+// Room for a list. The contract has its length alone, which is all that lending it needs.
+fn list_buffer() -> [u8; MOST_LIST]
+    ensures { λ r. ⌜ 4194304 ≡ length r ⌝ }
+{
+    [0; MOST_LIST]
+}
+
+// Serves each line as a command, with room for its list.
+fn serve_with(manner: Manner, verb: Verb, room: &mut [u8]) -> Outcome {
     let mut letters = [0u8; BASES];
     let n = console_words::bases(&mut letters);
     let mut block = io::buffer();
@@ -64,6 +90,7 @@ fn serve_commands(manner: Manner, verb: Verb) -> Outcome {
         console_figures::front(&letters, n),
         &mut block,
         &mut line,
+        room,
     )
 }
 
@@ -84,7 +111,8 @@ fn serve_keys(manner: Manner, columns: u64) -> Outcome {
 fn serve_records(manner: Manner, verb: Verb) -> Outcome {
     let mut block = io::buffer();
     let mut line = [0u8; RECORD_LINE];
-    serve(manner, verb, b"", &mut block, &mut line)
+    let mut none = [0u8; 0];
+    serve(manner, verb, b"", &mut block, &mut line, &mut none)
 }
 
 // Serves one line after the other, and answers the worst that came of one. No input has as many
@@ -95,6 +123,7 @@ fn serve(
     bases: &[u8],
     block: &mut [u8; BLOCK],
     line: &mut [u8],
+    room: &mut [u8],
 ) -> Outcome {
     let mut input = console_lines::start();
     let mut worst = Outcome::Served;
@@ -108,7 +137,13 @@ fn serve(
                 return console_replies::unread();
             }
             Got::Line { kept, long, rest } => {
-                let outcome = verbs::serve(verb, bases, console_figures::front(line, kept), long);
+                let outcome = verbs::serve(
+                    verb,
+                    bases,
+                    console_figures::front(line, kept),
+                    long,
+                    room,
+                );
                 if console_replies::is_failure(outcome) {
                     return console_replies::unwritten();
                 }

@@ -7,20 +7,26 @@ use rules::Answer;
 use rules::MOST_PLACES;
 use rules::MOST_TEXT;
 
-// Serves a line of `long` bytes, of which `line` has kept the first.
-pub fn serve(verb: Verb, bases: &[u8], line: &[u8], long: usize) -> Outcome {
+// Serves a line of `long` bytes, of which `line` has kept the first. A list is written into `room`.
+pub fn serve(verb: Verb, bases: &[u8], line: &[u8], long: usize, room: &mut [u8]) -> Outcome {
     match verb {
         Verb::Text => serve_record(verb, line, long),
         Verb::Bases => serve_record(verb, line, long),
-        _ => serve_command(verb, bases, line),
+        _ => serve_command(verb, bases, line, room),
     }
 }
 
+// Serves a line as `check` does.
+pub fn check(bases: &[u8], line: &[u8]) -> Outcome {
+    let mut none = [0u8; 0];
+    serve_command(Verb::Check, bases, line, &mut none)
+}
+
 // Reads a command, and does with its record what the verb asks.
-fn serve_command(verb: Verb, bases: &[u8], line: &[u8]) -> Outcome {
+fn serve_command(verb: Verb, bases: &[u8], line: &[u8], room: &mut [u8]) -> Outcome {
     let mut record = io::large_buffer();
     match mml::read(line, bases, &mut record) {
-        Answer::Done(n) => serve_accepted(verb, bases, line, front(&record, n as usize)),
+        Answer::Done(n) => serve_accepted(verb, bases, line, front(&record, n as usize), room),
         Answer::Refused(number, place) => console_replies::refuse(
             is_check(verb),
             bases,
@@ -40,10 +46,17 @@ fn is_check(verb: Verb) -> bool {
 }
 
 // Does what the verb asks with the record of a command.
-fn serve_accepted(verb: Verb, bases: &[u8], line: &[u8], record: &[u8]) -> Outcome {
+fn serve_accepted(
+    verb: Verb,
+    bases: &[u8],
+    line: &[u8],
+    record: &[u8],
+    room: &mut [u8],
+) -> Outcome {
     match verb {
         Verb::Check => write_accepted(bases, line, record),
         Verb::Orders => write_orders(record),
+        Verb::List => write_list(bases, line, record, room),
         Verb::Order(k) => write_order(bases, line, record, k),
         _ => console_replies::write_record(record),
     }
@@ -80,24 +93,59 @@ fn write_orders(record: &[u8]) -> Outcome {
 fn number_orders(record: &[u8], count: u64, order: &mut [u8], text: &mut [u8]) -> Outcome {
     let mut k = 0;
     while k < count {
-        match write_numbered(record, k, order, text) {
+        let answer = order_text(record, k, order, text);
+        let outcome = write_numbered(k, text, answer);
+        match outcome {
             Outcome::Served => {
                 k += 1;
             }
-            Outcome::Refused => {
-                return Outcome::Refused;
-            }
-            Outcome::Failed => {
-                return Outcome::Failed;
+            _ => {
+                return outcome;
             }
         }
     }
     Outcome::Served
 }
 
-// Writes order k behind its number.
-fn write_numbered(record: &[u8], k: u64, order: &mut [u8], text: &mut [u8]) -> Outcome {
-    match order_text(record, k, order, text) {
+// Writes every order of a record with its number, by way of the whole list of them.
+fn write_list(bases: &[u8], line: &[u8], record: &[u8], room: &mut [u8]) -> Outcome {
+    match mml::list(record, room) {
+        Answer::Done(n) => number_pieces(front(room, n as usize)),
+        Answer::Refused(number, place) => console_replies::refuse(
+            false,
+            bases,
+            line,
+            number,
+            place,
+        ),
+    }
+}
+
+// Writes the orders of a list, in turn.
+fn number_pieces(list: &[u8]) -> Outcome {
+    let mut text = [0u8; MOST_TEXT];
+    let mut k = 0;
+    let mut at = 0;
+    while at < list.len() {
+        let order = console_figures::first_order(&list[at..]);
+        let answer = mml::print(order, &mut text);
+        let outcome = write_numbered(k, &text, answer);
+        match outcome {
+            Outcome::Served => {
+                k += 1;
+                at += console_figures::LENGTH_FIELD + order.len();
+            }
+            _ => {
+                return outcome;
+            }
+        }
+    }
+    Outcome::Served
+}
+
+// Writes the text of order k, which was put into `text` with this answer, behind its number.
+fn write_numbered(k: u64, text: &[u8], answer: Answer) -> Outcome {
+    match answer {
         Answer::Done(n) => console_replies::write_order(k, front(text, n as usize)),
         Answer::Refused(number, place) => console_replies::refuse_order(number, place),
     }

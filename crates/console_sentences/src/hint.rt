@@ -4,10 +4,13 @@ ghost use lib.ListN.{length};
 use hint_phrases::Hint;
 use scan::Filled;
 
-// Keys of the catalogue's phrases: of a command and of a record that is too long (2), of a record (18), of a key (20), and of a name (21).
+// Keys of the catalogue's phrases: of a command and of a record that is too long (2), of a list (17), of a record (18), of a key (20), and
+// of a name (21).
 const SHORTER: u8 = b's';
 
 const LONG_RECORD: u8 = b'r';
+
+const LIST: u8 = b'l';
 
 const RECORD: u8 = b'r';
 
@@ -44,6 +47,7 @@ fn text_hint(line: &[u8], bases: &[u8], number: u8, place: usize) -> Hint {
         rules::NOT_PERMITTED => hint_text::why_byte(scan::byte(line, place)),
         rules::UNCLOSED => hint_phrases::plain(hint_text::what_open(scan::byte(line, place))),
         rules::NO_TOKEN => hint_text::where_stray(line, place),
+        rules::NO_ROOM => hint_phrases::plain(LIST),
         rules::NOT_WELL_FORMED => hint_phrases::plain(RECORD),
         rules::NO_SUCH_ORDER => hint_text::which_orders(place),
         rules::NO_KEY => hint_phrases::plain(KEYS),

@@ -34,6 +34,7 @@ pub enum Verb {
     Check,
     Record,
     Orders,
+    List,
     Order(u64),
     Text,
     Bases,
@@ -107,6 +108,9 @@ fn command_verb(word: &[u8], k: u64) -> Asked {
     }
     if is(word, b"orders") {
         return Asked::Commands(Verb::Orders);
+    }
+    if is(word, b"list") {
+        return Asked::Commands(Verb::List);
     }
     if is(word, b"order") {
         return Asked::Commands(Verb::Order(k));

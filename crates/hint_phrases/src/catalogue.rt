@@ -142,6 +142,7 @@ pub fn write_phrase(
 16 a this value has $n arguments
 16 o with this value there are $n orders
 17 . the buffer is too short for so many bytes
+17 l the verb list has room for 4,194,304 bytes; the verb orders writes the same orders one at a time
 18 . the record is not well formed
 18 r a record is what the verb record writes, whole and unchanged, from 0C0004 on
 19 . there are only so many orders, counted from 0

@@ -5,3 +5,4 @@ pub mod BlocksLaws
 pub mod PlacesBytes
 pub mod RecordBytes
 pub mod HeadBytes
+pub mod ToldLaws

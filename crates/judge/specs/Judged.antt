@@ -11,6 +11,7 @@ use Rattle.laws.specs.Cases.{pick}
 use Rattle.rules.specs.Refusals.{Res, ok, bad, notWellFormed, mostPlaces, mostArguments, mostOrders}
 use Rattle.rules.specs.Commands.{Place, placeCount, mult, Block, placesOf, allPlaces, Command, command}
 use Rattle.rules.specs.Records.{bytesOf, many, placeFields, blockFields}
+use Rattle.rules.specs.WellFormed.{bodyOf}
 use Rattle.rules.specs.Orders.{blockCount, count}
 use Rattle.marks.specs.Marks.{addedIf}
 use Rattle.marks.specs.declared.Marks.{Marks}
@@ -148,3 +149,11 @@ pub record IsGood (found : Res Command) (old new : List ℕ) (n t : ℕ) : Type 
 abbrev pub Judges : Res Command → List ℕ → List ℕ → Judged → Type 0
 Judges found old new (Good n t) = IsGood found old new n t
 Judges found old new Bad = found ≡ bad notWellFormed 0
+
+-- ---- the row that is left
+
+-- of the bytes behind a head: where the values of their command stand
+pub record Told (rec row : List ℕ) : Type 0 where
+  pub tree : Command
+  pub is : bodyOf rec ≡ ok tree
+  pub told : row ≡ spansOf tree

@@ -1,6 +1,6 @@
 -- The C interface's one number decides: number and value are its quotient and remainder by 2^32, since every call's value is below 2^32; so two results that meet
 -- `Packs`, `PacksCount` or `PacksKey` are equal.
-use Prim.Native.Nat.{ℕ, _+_, _*_, _/_, _%_, _^_, _<_, _≤_}
+use Prim.Native.Nat.{ℕ, _+_, _*_, _/_, _%_, _^_, _<_}
 use mathlib.Core.Path.{_≡_, refl, sym, ap, _∙_}
 use mathlib.Core.List.{List, [], _∷_, map}
 use native.Mathlib.Omega.{arith}
@@ -9,9 +9,9 @@ use Rattle.rules.specs.declared.Answer.{Answer}
 use Rattle.rules.specs.declared.Answer.the-variants.{Done, Refused}
 use Rattle.rules.specs.declared.Keeper.{Keeper}
 use Rattle.rules.specs.Refusals.{Res, mapR}
-use Rattle.rules.specs.Answers.{reading, printing, ordering, counting, answered, numberOf, valueOf}
+use Rattle.rules.specs.Answers.{reading, printing, ordering, counting, listing, answered, numberOf, valueOf}
 use Rattle.rules.specs.Keeping.{afterKey}
-use Rattle.rules.proofs.AnswersFit.{reading-most, printing-most, ordering-most, counting-most, pressing-most}
+use Rattle.rules.proofs.AnswersFit.{reading-most, printing-most, ordering-most, counting-most, listing-most, pressing-most}
 use Rattle.mml.specs.Interface.{packed, Packs, PacksCount, PacksKey}
 
 -- answers and their numbers, worked out by hand: 17 times 4,294,967,296, and 4; the greatest value
@@ -41,27 +41,28 @@ packed-decides a b h k e =
 abbrev pub Parts : ℕ → Answer → Type 0
 Parts r a = (r / 2 ^ 32 ≡ numberOf a) × (r % 2 ^ 32 ≡ valueOf a)
 
-packed-parts : (r : ℕ) (a : Answer) → r ≡ packed a → valueOf a ≤ 65536 → Parts r a
-packed-parts r a e h =
-    let k : valueOf a < 2 ^ 32 = omega arith in
-    (ap (λ x. x / 2 ^ 32) e ∙ number-back a k, ap (λ x. x % 2 ^ 32) e ∙ value-back a k)
+packed-parts : (r : ℕ) (a : Answer) → r ≡ packed a → valueOf a < 2 ^ 32 → Parts r a
+packed-parts r a e h = (ap (λ x. x / 2 ^ 32) e ∙ number-back a h, ap (λ x. x % 2 ^ 32) e ∙ value-back a h)
 
 pub read-parts : (text letters old : List ℕ) (r : ℕ) (new : List ℕ) → Packs (reading text letters old) old r new
     → Parts r (answered (mapR length (reading text letters old)))
-read-parts text letters old r new p = packed-parts r (answered (mapR length (reading text letters old))) (p .answers) (reading-most text letters old)
+read-parts text letters old r new p = packed-parts r (answered (mapR length (reading text letters old))) (p .answers) (omega (arith, reading-most text letters old))
 
 pub print-parts : (rec old : List ℕ) (r : ℕ) (new : List ℕ) → Packs (printing rec old) old r new → Parts r (answered (mapR length (printing rec old)))
-print-parts rec old r new p = packed-parts r (answered (mapR length (printing rec old))) (p .answers) (printing-most rec old)
+print-parts rec old r new p = packed-parts r (answered (mapR length (printing rec old))) (p .answers) (omega (arith, printing-most rec old))
 
 pub order-parts : (rec : List ℕ) (k : ℕ) (old : List ℕ) (r : ℕ) (new : List ℕ) → Packs (ordering rec k old) old r new
     → Parts r (answered (mapR length (ordering rec k old)))
-order-parts rec k old r new p = packed-parts r (answered (mapR length (ordering rec k old))) (p .answers) (ordering-most rec k old)
+order-parts rec k old r new p = packed-parts r (answered (mapR length (ordering rec k old))) (p .answers) (omega (arith, ordering-most rec k old))
+
+pub list-parts : (rec old : List ℕ) (r : ℕ) (new : List ℕ) → Packs (listing rec old) old r new → Parts r (answered (mapR length (listing rec old)))
+list-parts rec old r new p = packed-parts r (answered (mapR length (listing rec old))) (p .answers) (listing-most rec old)
 
 pub count-parts : (rec : List ℕ) (r : ℕ) → PacksCount rec r → Parts r (answered (counting rec))
-count-parts rec r p = packed-parts r (answered (counting rec)) p (counting-most rec)
+count-parts rec r p = packed-parts r (answered (counting rec)) p (omega (arith, counting-most rec))
 
 pub key-parts : (k : Keeper) (c r : ℕ) (new : Keeper) → PacksKey k c r new → Parts r (afterKey k c .answer)
-key-parts k c r new p = packed-parts r (afterKey k c .answer) (p .answers) (pressing-most k c)
+key-parts k c r new p = packed-parts r (afterKey k c .answer) (p .answers) (omega (arith, pressing-most k c))
 
 -- "Any two results satisfying it are proved equal"
 pub packs-decided : (result : Res (List ℕ)) (old : List ℕ) (r s : ℕ) (new also : List ℕ) → Packs result old r new → Packs result old s also → (r ≡ s) × (new ≡ also)

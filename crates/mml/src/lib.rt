@@ -1,6 +1,6 @@
-// The public face: read, print, order, count and key, for Rattle and for C.
+// The public face: read, print, order, count, list and key, for Rattle and for C.
 ghost use mathlib.Core.Path.{_≡_};
-ghost use Rattle.rules.specs.Answers.{reading, printing, ordering, counting, Reads, Prints, Orders, Counts};
+ghost use Rattle.rules.specs.Answers.{reading, printing, ordering, counting, listing, Reads, Prints, Orders, Counts, Lists};
 ghost use Rattle.rules.specs.Keeping.{afterKey};
 ghost use Rattle.mml.specs.Interface.{packed, Packs, PacksCount, PacksKey, numbered};
 use rules::Answer;
@@ -36,6 +36,13 @@ pub fn count(rec: &[u8]) -> Answer
     ensures { λ r. ⌜ Counts (now (rec .entry)) r ⌝ }
 {
     judge::count(rec)
+}
+
+// Writes every order of a record, each behind its length.
+pub fn list(rec: &[u8], out: &mut [u8]) -> Answer
+    ensures { λ r. ⌜ Lists (now (rec .entry)) (now (out .entry)) r (now (out .exit)) ⌝ }
+{
+    list::list(rec, out)
 }
 
 // One key to a line keeper.
@@ -89,6 +96,15 @@ pub extern "C" fn mml_count(rec: &[u8]) -> u64
 {
     let counting = count(rec);
     pack(counting)
+}
+
+// `mml_list` of include/mml.h.
+#[no_mangle]
+pub extern "C" fn mml_list(rec: &[u8], out: &mut [u8]) -> u64
+    ensures { λ r. ⌜ Packs (listing (now (rec .entry)) (now (out .entry))) (now (out .entry)) r (now (out .exit)) ⌝ }
+{
+    let listing = list(rec, out);
+    pack(listing)
 }
 
 // A keeper after a key, and the answer as one number.

@@ -8,9 +8,9 @@ use lib.Seq.{take-all}
 use Rattle.laws.specs.Over.{over, part, back as given, back-over, length-over, length-part}
 use Rattle.record_walk.proofs.RunLaws.{size-append}
 use Rattle.record_walk.specs.Runs.{Whole, bytesIn}
-use Rattle.order_argument.specs.Terms.{argumentBytes, IsArgument}
+use Rattle.order_argument.specs.Terms.{termValue, argumentBytes, IsArgument}
 use Rattle.order_argument.specs.declared.Argument.{Argument}
-use Rattle.order_argument.proofs.TermLaws.{argument-short, units-bytes}
+use Rattle.order_argument.proofs.TermLaws.{valued-short, units-bytes}
 use Rattle.order.specs.Reduced.{partsBytes, reduce, reduced, Part, kept, placed, partFields, partsOf, reducedPlace, orderBytes}
 use Rattle.order.specs.Plans.{keptMark, positionsIn, Planned, Within, changed}
 use Rattle.order.proofs.ReduceLaws.{bytes-long, Reducing, reducing-none, reducing-turn, reducing-all}
@@ -120,7 +120,7 @@ module _ (rec : List ℕ) (at value : ℕ) (a : Argument) (w : Within rec at val
   -- an argument is not longer than its element, and both stand in the record
   pub changed-short : {r : ℕ} → r ≡ length argument → value - at + r ≤ length rec
   changed-short e =
-      omega (arith, argument-short (bytesIn rec (a .start) (a .end)) (a .term), bytes-long rec (a .start) (a .end) (w .end) (w .inside), w)
+      omega (arith, valued-short (bytesIn rec (a .start) (a .end)) (termValue (bytesIn rec (a .start) (a .end)) (a .term)), bytes-long rec (a .start) (a .end) (w .end) (w .inside), w)
 
   module _ (out : List ℕ) (h : length (changed rec at value a) ≤ length out) where
     pub before-room : length before ≤ length out

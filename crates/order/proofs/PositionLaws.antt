@@ -10,7 +10,7 @@ use lib.Dec.{ltb}
 use lib.ListN.{length, getD, take, drop, set, length-set, length-take, List·getD-append}
 use lib.Seq.{take-add, set-at, take-length, drop-length, length-take-le, getD-take}
 use Rattle.laws.specs.Cases.{byBool, pick, and-l, and-r}
-use Rattle.laws.specs.Lists.{all, next}
+use Rattle.laws.specs.Lists.{all}
 use Rattle.rules.specs.Units.{Base}
 use Rattle.rules.specs.Refusals.{ok}
 use Rattle.rules.specs.Commands.{Element, single, range, Place, place, Command, terms, sum, valueCount, placeCount}
@@ -23,7 +23,9 @@ use Rattle.record_walk.specs.Fronts.{tagOf}
 use Rattle.record_walk.specs.Spans.{size, headFields, spansOf}
 use Rattle.record_walk.proofs.RunLaws.{drop-behind}
 use Rattle.order.specs.Reduced.{positionsOf, Part, kept, placed, partFields, partsBytes, partsOf, Below, placesIn}
-use Rattle.order.specs.Plans.{Told, keptMark, isReduced, planOf, positionIn, positionsIn, Plans, slotFor, goesOn}
+use Rattle.judge.specs.Judged.{Told}
+use Rattle.judge.proofs.ToldLaws.{three-front}
+use Rattle.order.specs.Plans.{keptMark, isReduced, planOf, positionIn, positionsIn, Plans, slotFor, goesOn}
 use Rattle.order.proofs.PartLaws.{partPlaces, finePart, parts-fields, parts-in, parts-fine, part-tag, partSpans, spans-long, spans-are, behind, leftOf, positions-below}
 
 -- ---- the loop
@@ -58,13 +60,7 @@ placing-none {rec} {row} k t =
       long = refl;
     }
 
--- a place's three numbers
-pub three-front : (row : List ℕ) (j : ℕ) → j + 3 ≤ length row → drop j row ≡ getD row j 0 ∷ getD row (j + 1) 0 ∷ getD row (j + 2) 0 ∷ drop (j + 3) row
-three-front row j h =
-    let two : j + 1 + 1 ≡ j + 2 = omega arith in
-    let three : j + 2 + 1 ≡ j + 3 = omega arith in
-    rw (next row j (omega arith), next row (j + 1) (omega arith), two, next row (j + 2) (omega arith), three)
-
+-- the row up to behind a place's three numbers
 three-back : (row : List ℕ) (j : ℕ) → j + 3 ≤ length row → take (j + 3) row ≡ take j row ++ (getD row j 0 ∷ getD row (j + 1) 0 ∷ getD row (j + 2) 0 ∷ [])
 three-back row j h = take-add j 3 row ∙ ap (λ (r : List ℕ). take j row ++ take 3 r) (three-front row j h)
 

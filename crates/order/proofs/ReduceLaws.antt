@@ -5,8 +5,8 @@ use mathlib.Core.Bool.{true, false, false≢true}
 use mathlib.Core.List.{List, [], _∷_, _++_, append-assoc, append-nil}
 use Prim.Native.Nat.{ℕ, _+_, _-_, _*_, _≤_, _<_}
 use native.Mathlib.Omega.{arith}
-use lib.ListN.{length, getD, take, drop, length-append, length-take, length-drop, drop-of-length-le, take-append-drop}
-use lib.Seq.{take-add, take-at, drop-drop}
+use lib.ListN.{length, getD, drop, length-append, length-take, length-drop, drop-of-length-le, take-append-drop}
+use lib.Seq.{drop-drop}
 use Rattle.laws.specs.Cases.{byBool, and-l, and-r}
 use Rattle.laws.specs.Lists.{all}
 use Rattle.rules.specs.Characters.{between}
@@ -21,30 +21,19 @@ use Rattle.rules.proofs.ValueBack.{v-all}
 use Rattle.record_walk.specs.Fronts.{tagOf}
 use Rattle.record_walk.specs.Runs.{Whole, bytesIn}
 use Rattle.record_walk.specs.Spans.{size, headFields}
-use Rattle.record_walk.proofs.RunLaws.{drop-behind, stands-inside, low-tag}
+use Rattle.record_walk.proofs.RunLaws.{drop-behind, stands-inside, bytes-none, bytes-on, low-tag}
 use Rattle.order_argument.specs.Terms.{argumentBytes, IsArgument}
 use Rattle.order_argument.specs.declared.Argument.{Argument}
 use Rattle.order.specs.Reduced.{Part, kept, placed, partFields, partsBytes, partsOf, reduce, reduced, Below}
 use Rattle.order.specs.Plans.{keptMark, isReduced, slotOf, planOf, positionsIn, Planned, changed}
 use Rattle.order.proofs.PartLaws.{partPlaces, finePart, parts-fields, parts-in, parts-fine, part-tag}
-use Rattle.order.proofs.PositionLaws.{three-front, position-low, head-bytes}
+use Rattle.judge.proofs.ToldLaws.{three-front}
+use Rattle.order.proofs.PositionLaws.{position-low, head-bytes}
 
 -- ---- bytes of a record
 
 pub bytes-long : (rec : List ℕ) (a e : ℕ) → a ≤ e → e ≤ length rec → length (bytesIn rec a e) ≡ e - a
 bytes-long rec a e h k = omega (arith, length-take (e - a) (drop a rec), length-drop a rec)
-
-bytes-none : (rec : List ℕ) (a : ℕ) → bytesIn rec a a ≡ []
-bytes-none rec a = let z : a - a ≡ 0 = omega arith in rw z
-
--- w stands at q: the bytes up to its end
-bytes-on : (rec : List ℕ) (a q : ℕ) (w rest : List ℕ) → a ≤ q → drop q rec ≡ w ++ rest → bytesIn rec a (q + length w) ≡ bytesIn rec a q ++ w
-bytes-on rec a q w rest h e =
-    let n : q + length w - a ≡ (q - a) + length w = omega arith in
-    let m : a + (q - a) ≡ q = omega arith in
-    let d : drop (q - a) (drop a rec) ≡ w ++ rest = drop-drop (q - a) a rec ∙ ap (λ (k : ℕ). drop k rec) m ∙ e in
-    ap (λ (k : ℕ). take k (drop a rec)) n ∙ take-add (q - a) (length w) (drop a rec)
-    ∙ ap (λ (x : List ℕ). bytesIn rec a q ++ x) (ap (take (length w)) d ∙ take-at w rest (length w) refl)
 
 -- ---- the next place
 

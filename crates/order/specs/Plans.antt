@@ -13,16 +13,10 @@ use Rattle.rules.specs.Records.{fieldBytes, placeFields, rangeTag}
 use Rattle.rules.specs.WellFormed.{bodyOf}
 use Rattle.record_walk.specs.Fronts.{tagOf}
 use Rattle.record_walk.specs.Runs.{bytesIn}
-use Rattle.record_walk.specs.Spans.{size, headFields, spansOf}
+use Rattle.record_walk.specs.Spans.{size, headFields}
 use Rattle.order_argument.specs.Terms.{moreTerms, argumentBytes}
 use Rattle.order_argument.specs.declared.Argument.{Argument}
 use Rattle.order.specs.Reduced.{positionsOf, Part, kept, placed, partsOf, Below, placesIn}
-
--- the row that the judge leaves
-pub record Told (rec row : List ℕ) : Type 0 where
-  pub tree : Command
-  pub is : bodyOf rec ≡ ok tree
-  pub told : row ≡ spansOf tree
 
 -- ---- what becomes of a value
 

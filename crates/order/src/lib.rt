@@ -5,8 +5,9 @@ ghost use lib.ListN.{length};
 ghost use Rattle.laws.specs.Over.{over};
 ghost use Rattle.rules.specs.Refusals.{ok};
 ghost use Rattle.rules.specs.Answers.{fitted, Promise, Orders};
+ghost use Rattle.judge.specs.Judged.{Told};
 ghost use Rattle.order.specs.Reduced.{reduced, orderBytes};
-ghost use Rattle.order.specs.Plans.{Told, positionsIn, Planned, Plans, slotFor, goesOn, Within, changed};
+ghost use Rattle.order.specs.Plans.{positionsIn, Planned, Plans, slotFor, goesOn, Within, changed};
 
 // Where in its three numbers the value's start stands.
 const START: usize = 1;

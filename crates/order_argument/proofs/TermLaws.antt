@@ -22,7 +22,7 @@ use Rattle.rules.proofs.FieldLaws.{bytes-append, bytes-cons}
 use Rattle.rules.proofs.ValueBack.{ok-last, ok-range}
 use Rattle.record_walk.specs.Fronts.{tagOf}
 use Rattle.fields.specs.Units.{numeralBytes}
-use Rattle.order_argument.specs.Terms.{isRange, moreTerms, termValue, lastUnitAt, termBytes, argumentBytes, IsArgument}
+use Rattle.order_argument.specs.Terms.{isRange, moreTerms, termValue, lastUnitAt, termBytes, valuedBytes, argumentBytes, IsArgument}
 use Rattle.laws.specs.Lists.{all}
 use Rattle.rules.specs.Characters.{between}
 use Rattle.record_walk.specs.Runs.{Whole, ElementTo, bytesIn}
@@ -70,7 +70,7 @@ module _ (l : List Unit) (r : Radix) (lo up inc : ℕ) where
   whole-long : length whole ≡ 11 + (length lead + 9)
   whole-long = omega (arith, ap length whole-is, length-append lead (fieldBytes (unitField (num r 0 lo))))
 
-  range-is : isRange whole ≡ true
+  pub range-is : isRange whole ≡ true
   unfolding isRange
   range-is = rw (le-leb 20 (length whole) (omega (arith, whole-long)))
 
@@ -89,22 +89,32 @@ module _ (l : List Unit) (r : Radix) (lo up inc : ℕ) where
 
   -- a well-formed range's numbers fit their bytes
   module _ (b : Base) (m : ℕ) (h : wfElement b m (range l r lo up inc) ≡ true) where
-    upper-is : num4 whole 3 ≡ up
+    pub upper-is : num4 whole 3 ≡ up
     upper-is = four up (value-small b r 0 up (search (parts, ok-range b m (range l r lo up inc) h)))
 
-    increment-is : num4 whole 7 ≡ inc
+    pub increment-is : num4 whole 7 ≡ inc
     increment-is = four inc (value-small b r 0 inc (search (parts, ok-range b m (range l r lo up inc) h)))
 
-    lower-is : num4 whole (length whole - 4) ≡ lo
+    pub lower-is : num4 whole (length whole - 4) ≡ lo
     lower-is =
         let p : List ℕ = ends ++ (lead ++ (7 ∷ 0 ∷ 6 ∷ radixLetter r ∷ 0 ∷ [])) in
         let e : whole ≡ p ++ fourBytes lo = whole-is ∙ ap (λ (x : List ℕ). ends ++ x) (sym (append-assoc lead (7 ∷ 0 ∷ 6 ∷ radixLetter r ∷ 0 ∷ []) (fourBytes lo))) in
         let n : length p ≡ length whole - 4 = omega (arith, whole-long, length-append lead (7 ∷ 0 ∷ 6 ∷ radixLetter r ∷ 0 ∷ [])) in
         ap (λ (x : List ℕ). num4 x (length whole - 4)) e ∙ num4-behind p (fourBytes lo) (length whole - 4) n ∙ four lo (value-small b r 0 lo (ok-last b m (range l r lo up inc) h))
 
-single-is : (l : List Unit) (u : Unit) → isRange (bytesOf (elementFields (single l u))) ≡ false
+  -- with a term's value, as a single element
+  pub valued-range : (v : ℕ) → valuedBytes whole v ≡ bytesOf (elementFields (single l (num r 0 v)))
+  unfolding valuedBytes termBytes numeralBytes
+  valued-range v = rw (range-is, lead-is, letter-is) (ap (λ (x : List ℕ). 5 ∷ 0 ∷ 0 ∷ x) (sym (units-bytes l (num r 0 v))))
+
+pub single-is : (l : List Unit) (u : Unit) → isRange (bytesOf (elementFields (single l u))) ≡ false
 unfolding isRange
 single-is l u = and-false (leb 20 (length (bytesOf (elementFields (single l u)))))
+
+-- a single element is its own
+pub valued-single : (l : List Unit) (u : Unit) (v : ℕ) → valuedBytes (bytesOf (elementFields (single l u))) v ≡ bytesOf (elementFields (single l u))
+unfolding valuedBytes
+valued-single l u v = rw (single-is l u)
 
 module _ (b : Base) (m : ℕ) where
   -- an element's number of terms
@@ -116,11 +126,11 @@ module _ (b : Base) (m : ℕ) where
 
   -- the bytes of its n-th term
   pub term-is : (e : Element) (n : ℕ) → wfElement b m e ≡ true → argumentBytes (bytesOf (elementFields e)) n ≡ bytesOf (elementFields (termAt e n))
-  unfolding argumentBytes termBytes termValue numeralBytes
-  term-is (single l u) n h = rw (single-is l u)
+  unfolding termValue
+  term-is (single l u) n h = valued-single l u (termValue (bytesOf (elementFields (single l u))) n)
   term-is (range l r lo up inc) n h =
-      rw (range-is l r lo up inc, lead-is l r lo up inc, letter-is l r lo up inc, increment-is l r lo up inc b m h, lower-is l r lo up inc b m h)
-      (ap (λ (x : List ℕ). 5 ∷ 0 ∷ 0 ∷ x) (sym (units-bytes l (num r 0 (lo + n * inc)))))
+      valued-range l r lo up inc (termValue (bytesOf (elementFields (range l r lo up inc))) n)
+      ∙ rw (increment-is l r lo up inc b m h, lower-is l r lo up inc b m h)
 
 -- ---- lengths and limits
 
@@ -133,15 +143,15 @@ pub tested-long : (x : List ℕ) {r : Bool} → r ≡ isRange x → r ≡ true �
 tested-long x e h = range-long x (sym e ∙ h)
 
 -- the sizes of a range and of its term, which has 8 bytes less: upper end and increment
-pub record RangeSizes (x : List ℕ) (n : ℕ) : Type 0 where
+pub record RangeSizes (x : List ℕ) (v : ℕ) : Type 0 where
   pub range : 20 ≤ length x
   pub lead : length (take (lastUnitAt x - 11) (drop 11 x)) ≡ length x - 20
-  pub term : length (termBytes x n) ≡ length x - 8
+  pub term : length (termBytes x v) ≡ length x - 8
 
-pub range-sizes : (x : List ℕ) (n : ℕ) → isRange x ≡ true → RangeSizes x n
+pub range-sizes : (x : List ℕ) (v : ℕ) → isRange x ≡ true → RangeSizes x v
 unfolding termBytes numeralBytes
-range-sizes x n h =
-    let w : List ℕ = numeralBytes (getD x (lastUnitAt x + 3) 0) 0 (termValue x n) in
+range-sizes x v h =
+    let w : List ℕ = numeralBytes (getD x (lastUnitAt x + 3) 0) 0 v in
     let lead : length (take (lastUnitAt x - 11) (drop 11 x)) ≡ length x - 20 =
     omega (arith, range-long x h, length-take (lastUnitAt x - 11) (drop 11 x), length-drop 11 x) in
     record {
@@ -151,15 +161,15 @@ range-sizes x n h =
     }
 
 -- the term is written: its head, the leading units, and the last unit with the lower end's letter
-pub term-over : (x out : List ℕ) (n : ℕ) {p v : ℕ} {o o′ ys : List ℕ} → isRange x ≡ true → v ≡ termValue x n → p ≡ 3 → o ≡ over (fieldBytes (field 5 [])) out
+pub term-over : (x out : List ℕ) (v : ℕ) {p : ℕ} {o o′ ys : List ℕ} → isRange x ≡ true → p ≡ 3 → o ≡ over (fieldBytes (field 5 [])) out
     → o′ ≡ over (take (lastUnitAt x - 11) (drop 11 x)) (part o p) → ys ≡ over (numeralBytes (getD x (lastUnitAt x + 3) 0) 0 v) (part (given o p o′) (p + (lastUnitAt x - 11)))
-    → given (given o p o′) (p + (lastUnitAt x - 11)) ys ≡ over (termBytes x n) out
+    → given (given o p o′) (p + (lastUnitAt x - 11)) ys ≡ over (termBytes x v) out
 unfolding termBytes
-term-over x out n {p} h ev ep e e′ f =
+term-over x out v {p} h ep e e′ f =
     let head : List ℕ = fieldBytes (field 5 []) in
     let lead : List ℕ = take (lastUnitAt x - 11) (drop 11 x) in
-    let k : length (head ++ lead) ≡ p + (lastUnitAt x - 11) = omega (arith, length-append head lead, range-sizes x n h) in
-    back-over (head ++ lead) (numeralBytes (getD x (lastUnitAt x + 3) 0) 0 (termValue x n)) out (back-over head lead out e (sym ep) e′) k (rw ev at f)
+    let k : length (head ++ lead) ≡ p + (lastUnitAt x - 11) = omega (arith, length-append head lead, range-sizes x v h) in
+    back-over (head ++ lead) (numeralBytes (getD x (lastUnitAt x + 3) 0) 0 v) out (back-over head lead out e (sym ep) e′) k f
 
 -- no term is above both ends
 pub term-below : (x : List ℕ) (n : ℕ) → isRange x ≡ true → n ≤ moreTerms x → n * num4 x 7 ≤ num4 x 3 - num4 x (length x - 4)
@@ -169,26 +179,25 @@ term-below x n h k =
     let q : n ≤ d / num4 x 7 = rw h at k in
     omega (arith, mul-le-mul-right (num4 x 7) q, div-mul-le-self d (num4 x 7))
 
--- ---- arguments, by what a test of the element says
+-- ---- an element as a single one, by what a test of it says
 
-module _ (x : List ℕ) (n : ℕ) {r : Bool} (e : r ≡ isRange x) where
-  -- a range's argument is its term
-  pub argument-term : r ≡ true → argumentBytes x n ≡ termBytes x n
-  unfolding argumentBytes
-  argument-term h = rw (← e, h)
+module _ (x : List ℕ) (v : ℕ) {r : Bool} (e : r ≡ isRange x) where
+  -- a range is its term
+  pub valued-term : r ≡ true → valuedBytes x v ≡ termBytes x v
+  unfolding valuedBytes
+  valued-term h = rw (← e, h)
 
-  -- any other element is its own argument
-  pub argument-whole : r ≡ false → argumentBytes x n ≡ x
-  unfolding argumentBytes
-  argument-whole h = rw (← e, h)
+  -- any other element is as it is
+  pub valued-whole : r ≡ false → valuedBytes x v ≡ x
+  unfolding valuedBytes
+  valued-whole h = rw (← e, h)
 
-  pub argument-range : r ≡ true → length x - 8 ≡ length (argumentBytes x n)
-  argument-range h = rw (argument-term h) (sym (range-sizes x n (sym e ∙ h) .term))
+  pub valued-long : r ≡ true → length x - 8 ≡ length (valuedBytes x v)
+  valued-long h = rw (valued-term h) (sym (range-sizes x v (sym e ∙ h) .term))
 
--- no argument is longer than its element
-pub argument-short : (x : List ℕ) (n : ℕ) → length (argumentBytes x n) ≤ length x
-argument-short x n =
-    byBool (isRange x) (λ h. omega (arith, argument-range x n refl h)) (λ h. rw (argument-whole x n refl h) (le-refl (length x)))
+-- and so it is not longer than the element
+pub valued-short : (x : List ℕ) (v : ℕ) → length (valuedBytes x v) ≤ length x
+valued-short x v = byBool (isRange x) (λ h. omega (arith, valued-long x v refl h)) (λ h. rw (valued-whole x v refl h) (le-refl (length x)))
 
 -- ---- the n-th argument: in the element that stands there if that has more than n terms, and else behind it, n less by the element's terms
 
@@ -210,7 +219,7 @@ not-unit t h =
     absurd (false≢true (sym h ∙ rw (le-leb 5 t (omega arith), high))))
     (λ y. y)
 
-no-unit-behind : (es : List Element) (rest : List ℕ) → between singleTag stringTag (tagOf rest) ≡ false → isUnit (tagOf (bytesOf (many elementFields es) ++ rest)) ≡ false
+pub no-unit-behind : (es : List Element) (rest : List ℕ) → between singleTag stringTag (tagOf rest) ≡ false → isUnit (tagOf (bytesOf (many elementFields es) ++ rest)) ≡ false
 no-unit-behind [] rest h = not-unit (tagOf rest) h
 no-unit-behind (single l u ∷ es) rest h = refl
 no-unit-behind (range l r lo up inc ∷ es) rest h = refl

@@ -61,13 +61,18 @@ moreTerms x = pick (isRange x) ((num4 x upperAt - num4 x (lowerAt x)) / num4 x i
 unfoldable pub termValue : List ℕ → ℕ → ℕ
 termValue x n = num4 x (lowerAt x) + n * num4 x incrementAt
 
--- as a single element: the leading units stay, and the last unit has the lower end's letter
+-- a range's term of that value as a single element: the leading units stay, and the last unit has the lower end's letter
 unfoldable pub termBytes : List ℕ → ℕ → List ℕ
-termBytes x n =
-    (fieldBytes (field singleTag []) ++ take (lastUnitAt x - rangeField) (drop rangeField x)) ++ numeralBytes (getD x (letterAt x) 0) 0 (termValue x n)
+termBytes x v =
+    (fieldBytes (field singleTag []) ++ take (lastUnitAt x - rangeField) (drop rangeField x)) ++ numeralBytes (getD x (letterAt x) 0) 0 v
 
-unfoldable pub argumentBytes : List ℕ → ℕ → List ℕ
-argumentBytes x n = pick (isRange x) (termBytes x n) x
+-- an element as a single one: a range with a term's value, any other as it is
+unfoldable pub valuedBytes : List ℕ → ℕ → List ℕ
+valuedBytes x v = pick (isRange x) (termBytes x v) x
+
+-- its n-th argument
+abbrev pub argumentBytes : List ℕ → ℕ → List ℕ
+argumentBytes x n = valuedBytes x (termValue x n)
 
 -- ---- arguments
 

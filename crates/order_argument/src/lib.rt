@@ -5,7 +5,7 @@ ghost use Prim.Native.Nat.{ℕ, _-_, _/_, _≤_};
 ghost use lib.ListN.{length};
 ghost use Rattle.laws.specs.Over.{over};
 ghost use Rattle.record_walk.specs.Runs.{Whole};
-ghost use Rattle.order_argument.specs.Terms.{isRange, moreTerms, termValue, termBytes, argumentBytes, IsArgument};
+ghost use Rattle.order_argument.specs.Terms.{isRange, moreTerms, termValue, termBytes, valuedBytes, argumentBytes, IsArgument};
 
 // A range without leading units: its own field and its lower end's.
 const SHORTEST_RANGE: usize = record_walk::RANGE_FIELD + record_walk::NUMERAL_FIELD;
@@ -18,7 +18,7 @@ pub struct Argument {
 }
 
 // Whether these bytes of an element are a range's: its field with upper end and increment, and a numeral as last unit.
-fn is_range(element: &[u8]) -> bool
+pub fn is_range(element: &[u8]) -> bool
     ensures { λ r. ⌜ r ≡ isRange (now (element .entry)) ⌝ }
 {
     if element.len() < SHORTEST_RANGE {
@@ -44,7 +44,7 @@ fn steps(lower: u32, upper: u32, increment: u32) -> u32
 }
 
 // How many terms an element has behind its first one.
-fn more_terms(element: &[u8]) -> u32
+pub fn more_terms(element: &[u8]) -> u32
     ensures { λ r. ⌜ r ≡ moreTerms (now (element .entry)) ⌝ }
 {
     if is_range(element) {
@@ -83,7 +83,7 @@ pub fn nth_argument(rec: &[u8], at: usize, position: u32) -> Argument
 
 // How many bytes an argument of the element takes: a range's is without upper end and increment.
 pub fn argument_len(element: &[u8]) -> usize
-    ensures { λ r. ⌜ ((n : ℕ) → r ≡ length (argumentBytes (now (element .entry)) n)) ⌝ }
+    ensures { λ r. ⌜ ((v : ℕ) → r ≡ length (valuedBytes (now (element .entry)) v)) ⌝ }
 {
     if is_range(element) {
         return element.len() - record_walk::RANGE_CONTENT;
@@ -100,20 +100,43 @@ fn term_value(range: &[u8], term: u32) -> u32
     lower + term * record_walk::number_at(range, record_walk::INCREMENT)
 }
 
-// A range's term as a single element: the leading units as they are, the last unit made new.
-fn put_term(out: &mut [u8], range: &[u8], term: u32) -> usize
-    requires { ⌜ (isRange (now range) ≡ true) × (term ≤ moreTerms (now range)) × (length (termBytes (now range) term) ≤ length (now out)) ⌝ }
-    ensures { λ r. ⌜ (r ≡ length (termBytes (now (range .entry)) term))
-        × (now (out .exit) ≡ over (termBytes (now (range .entry)) term) (now (out .entry))) ⌝ }
+// Which value an argument of the element has: a range's term; of any other element none is asked.
+fn value_of(element: &[u8], term: u32) -> u32
+    requires { ⌜ term ≤ moreTerms (now element) ⌝ }
+    ensures { λ r. ⌜ valuedBytes (now (element .entry)) r ≡ argumentBytes (now (element .entry)) term ⌝ }
+{
+    if is_range(element) {
+        return term_value(element, term);
+    }
+    0
+}
+
+// A range's term of that value as a single element: the leading units as they are, the last unit made new.
+fn put_term(out: &mut [u8], range: &[u8], value: u32) -> usize
+    requires { ⌜ (isRange (now range) ≡ true) × (length (termBytes (now range) value) ≤ length (now out)) ⌝ }
+    ensures { λ r. ⌜ (r ≡ length (termBytes (now (range .entry)) value))
+        × (now (out .exit) ≡ over (termBytes (now (range .entry)) value) (now (out .entry))) ⌝ }
 {
     let last = range.len() - record_walk::NUMERAL_FIELD;
     let letter = range[last + record_walk::LETTER];
-    let value = term_value(range, term);
     let first = fields::put_field(out, record_walk::SINGLE, &range[..0]);
     fields::put_bytes(&mut out[first..], &range[record_walk::RANGE_FIELD..last]);
     let unit = first + (last - record_walk::RANGE_FIELD);
     fields::put_numeral(&mut out[unit..], letter, 0, value);
     unit + record_walk::NUMERAL_FIELD
+}
+
+// The element as a single one: a range with a term's value, any other as it is.
+pub fn put_valued(out: &mut [u8], element: &[u8], value: u32) -> usize
+    requires { ⌜ length (valuedBytes (now element) value) ≤ length (now out) ⌝ }
+    ensures { λ r. ⌜ (r ≡ length (valuedBytes (now (element .entry)) value))
+        × (now (out .exit) ≡ over (valuedBytes (now (element .entry)) value) (now (out .entry))) ⌝ }
+{
+    if is_range(element) {
+        return put_term(out, element, value);
+    }
+    fields::put_bytes(out, element);
+    element.len()
 }
 
 // An argument of the element as a single element.
@@ -122,9 +145,6 @@ pub fn put_argument(out: &mut [u8], element: &[u8], term: u32) -> usize
     ensures { λ r. ⌜ (r ≡ length (argumentBytes (now (element .entry)) term))
         × (now (out .exit) ≡ over (argumentBytes (now (element .entry)) term) (now (out .entry))) ⌝ }
 {
-    if is_range(element) {
-        return put_term(out, element, term);
-    }
-    fields::put_bytes(out, element);
-    element.len()
+    let value = value_of(element, term);
+    put_valued(out, element, value)
 }

@@ -7,8 +7,8 @@ use native.Mathlib.Nat.{div-add-mod'}
 use native.Mathlib.Omega.{arith}
 use borrow.Author.Tests.{lt-leb, le-leb, leb-true}
 use lib.Dec.{leb}
-use lib.ListN.{length, getD, drop, length-append, length-drop, drop-of-length-le}
-use lib.Seq.{getD-take, getD-drop, drop-drop, drop-append-seam, length-take-le}
+use lib.ListN.{length, getD, take, drop, length-append, length-drop, drop-of-length-le}
+use lib.Seq.{getD-take, getD-drop, take-add, take-at, drop-drop, drop-append-seam, length-take-le}
 use Rattle.laws.specs.Cases.{and-l, and-r}
 use Rattle.laws.specs.Lists.{all, all-append}
 use Rattle.rules.specs.Characters.{between}
@@ -48,6 +48,19 @@ module _ (rec : List ℕ) (a e : ℕ) where
 
   pub long-in : e ≤ length rec → length (bytesIn rec a e) ≡ e - a
   long-in h = length-take-le (e - a) (drop a rec) (omega (arith, length-drop a rec))
+
+-- none from a position to itself
+pub bytes-none : (rec : List ℕ) (a : ℕ) → bytesIn rec a a ≡ []
+bytes-none rec a = let z : a - a ≡ 0 = omega arith in rw z
+
+-- w stands at q: the bytes up to its end
+pub bytes-on : (rec : List ℕ) (a q : ℕ) (w rest : List ℕ) → a ≤ q → drop q rec ≡ w ++ rest → bytesIn rec a (q + length w) ≡ bytesIn rec a q ++ w
+bytes-on rec a q w rest h e =
+    let n : q + length w - a ≡ (q - a) + length w = omega arith in
+    let m : a + (q - a) ≡ q = omega arith in
+    let d : drop (q - a) (drop a rec) ≡ w ++ rest = drop-drop (q - a) a rec ∙ ap (λ (k : ℕ). drop k rec) m ∙ e in
+    ap (λ (k : ℕ). take k (drop a rec)) n ∙ take-add (q - a) (length w) (drop a rec)
+    ∙ ap (λ (x : List ℕ). bytesIn rec a q ++ x) (ap (take (length w)) d ∙ take-at w rest (length w) refl)
 
 -- ---- one field
 

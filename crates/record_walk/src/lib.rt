@@ -42,8 +42,11 @@ pub const SYMBOLIC: u8 = 10;
 // of a string, the last of the units,
 pub const STRING: u8 = 11;
 
-// and of the number of orders, with which a record begins.
+// of the number of orders, with which a record begins,
 pub const COUNT: u8 = 12;
+
+// and of an order's length, which stands before each order of a list.
+pub const ORDER_LENGTH: u8 = 14;
 
 // The bytes before a field's content: one of the tag, two of the length.
 pub const HEADER: usize = 3;

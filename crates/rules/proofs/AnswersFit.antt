@@ -1,22 +1,28 @@
--- Every answer's value is at most 65,536, so it fits 32 bits: a place is one in a text, an index, or a number of bytes or of orders, and no record is longer.
-use Prim.Native.Nat.{ℕ, _≤_}
-use mathlib.Core.Path.{_≡_}
+-- Every answer's value fits 32 bits. It is at most 65,536, a place being one in a text, an index, or a number of bytes or of orders, and no record longer; but for the
+-- list call, whose list is shorter than 2^32.
+use Prim.Native.Nat.{ℕ, _≤_, _<_}
+use mathlib.Core.Path.{_≡_, ap}
 use mathlib.Core.Bool.{Bool, true, false}
 use mathlib.Core.List.{List}
 use native.Mathlib.Omega.{arith}
 use lib.ListN.{length}
 use Rattle.rules.specs.declared.Keeper.{Keeper}
 use Rattle.rules.specs.Refusals.{Res, ok, bad, mapR}
-use Rattle.rules.specs.Answers.{reading, printing, ordering, counting, answered, valueOf}
+use Rattle.rules.specs.WellFormed.{recordOf}
+use Rattle.rules.specs.Listing.{listBytes}
+use Rattle.rules.specs.Answers.{reading, printing, ordering, counting, listing, answered, valueOf}
 use Rattle.rules.specs.Keeping.{ready, held, flag, settled, pressing, afterKey}
-use Rattle.rules.proofs.FromTheList.{ReaderRefuses, PrinterRefuses, OrderRefuses, CountRefuses, KeyRefuses, Record, Text, Orders, reading-comes, printing-comes, ordering-comes, counting-comes, pressing-comes}
+use Rattle.rules.proofs.EncodeDecode.{record-is}
+use Rattle.rules.proofs.FromTheList.{ReaderRefuses, PrinterRefuses, OrderRefuses, CountRefuses, ListRefuses, KeyRefuses, Record, Text, Orders, Listed, reading-comes, printing-comes, ordering-comes, counting-comes, listing-comes, pressing-comes}
+use Rattle.rules.proofs.ListBound.{list-size}
 use Rattle.rules.proofs.RefusalPlaces.{Comes, Whatever}
+use Rattle.rules.proofs.ResultLaws.{map-ok}
 
 -- a call's value, where its refusals' places and what it writes are no more
-value-most : (P : ℕ → ℕ → Type 0) (Q : List ℕ → Type 0) (r : Res (List ℕ)) → Comes P Q r → ((n p : ℕ) → P n p → p ≤ 65536)
-    → ((w : List ℕ) → Q w → length w ≤ 65536) → valueOf (answered (mapR length r)) ≤ 65536
-value-most P Q (ok w) h places writes = writes w h
-value-most P Q (bad n p) h places writes = places n p h
+value-most : (P : ℕ → ℕ → Type 0) (Q : List ℕ → Type 0) (most : ℕ) (r : Res (List ℕ)) → Comes P Q r → ((n p : ℕ) → P n p → p ≤ most)
+    → ((w : List ℕ) → Q w → length w ≤ most) → valueOf (answered (mapR length r)) ≤ most
+value-most P Q most (ok w) h places writes = writes w h
+value-most P Q most (bad n p) h places writes = places n p h
 
 reader-most : (letters text old : List ℕ) (n p : ℕ) → ReaderRefuses letters text old n p → p ≤ 65536
 reader-most letters text old n p (ReaderRefuses.aLetter h k) = omega arith
@@ -27,7 +33,7 @@ reader-most letters text old n p (ReaderRefuses.noRoom h k) = k
 
 pub reading-most : (text letters old : List ℕ) → valueOf (answered (mapR length (reading text letters old))) ≤ 65536
 reading-most text letters old =
-    value-most (ReaderRefuses letters text old) Record (reading text letters old) (reading-comes letters text old) (reader-most letters text old) (λ w h. h)
+    value-most (ReaderRefuses letters text old) Record 65536 (reading text letters old) (reading-comes letters text old) (reader-most letters text old) (λ w h. h)
 
 printer-most : (old : List ℕ) (n p : ℕ) → PrinterRefuses old n p → p ≤ 65536
 printer-most old n p PrinterRefuses.notWellFormed = omega arith
@@ -35,7 +41,7 @@ printer-most old n p PrinterRefuses.tooLong = omega arith
 printer-most old n p (PrinterRefuses.noRoom h k) = omega arith
 
 pub printing-most : (r old : List ℕ) → valueOf (answered (mapR length (printing r old))) ≤ 65536
-printing-most r old = value-most (PrinterRefuses old) Text (printing r old) (printing-comes r old) (printer-most old) (λ w h. omega arith)
+printing-most r old = value-most (PrinterRefuses old) Text 65536 (printing r old) (printing-comes r old) (printer-most old) (λ w h. omega arith)
 
 -- what is counted is at most 65,535
 counted-most : (c : Res ℕ) (n : ℕ) → Comes CountRefuses Orders c → c ≡ ok n → n ≤ 65536
@@ -47,7 +53,7 @@ order-most r k old n p (OrderRefuses.noSuchOrder e h) = counted-most (counting r
 order-most r k old n p (OrderRefuses.noRoom h m) = m
 
 pub ordering-most : (r : List ℕ) (k : ℕ) (old : List ℕ) → valueOf (answered (mapR length (ordering r k old))) ≤ 65536
-ordering-most r k old = value-most (OrderRefuses r k old) Record (ordering r k old) (ordering-comes r k old) (order-most r k old) (λ w h. h)
+ordering-most r k old = value-most (OrderRefuses r k old) Record 65536 (ordering r k old) (ordering-comes r k old) (order-most r k old) (λ w h. h)
 
 count-most : (c : Res ℕ) → Comes CountRefuses Orders c → valueOf (answered c) ≤ 65536
 count-most (ok n) h = omega arith
@@ -55,6 +61,19 @@ count-most (bad n p) CountRefuses.notWellFormed = omega arith
 
 pub counting-most : (r : List ℕ) → valueOf (answered (counting r)) ≤ 65536
 counting-most r = count-most (counting r) (counting-comes r)
+
+-- a record's list, written or not
+list-most : (r w : List ℕ) → Listed r w → length w ≤ 4294967295
+list-most r w h = map-ok listBytes (recordOf r) w h (λ c q e. omega (arith, ap length e, list-size c ((record-is r c q) .well)))
+
+-- the list call's places: 0, or the length of the record's list
+list-place-most : (r old : List ℕ) (n p : ℕ) → ListRefuses r old n p → p ≤ 4294967295
+list-place-most r old n p ListRefuses.notWellFormed = omega arith
+list-place-most r old n p (ListRefuses.noRoom h k) = list-most r _ h
+
+pub listing-most : (r old : List ℕ) → valueOf (answered (mapR length (listing r old))) < 4294967296
+listing-most r old =
+    omega (arith, value-most (ListRefuses r old) (Listed r) 4294967295 (listing r old) (listing-comes r old) (list-place-most r old) (list-most r))
 
 -- a key's: 0, 1 or 1,024
 flag-most : (b : Bool) → flag b ≤ 65536

@@ -20,7 +20,8 @@ use Rattle.rules.specs.Records.{encode, decode, countIn}
 use Rattle.rules.specs.WellFormed.{wellFormed, judged, recordOf}
 use Rattle.rules.specs.Printing.{print}
 use Rattle.rules.specs.Orders.{orderAt, count}
-use Rattle.rules.specs.Answers.{fitted, reading, printing, ordering, counting}
+use Rattle.rules.specs.Listing.{listBytes}
+use Rattle.rules.specs.Answers.{fitted, reading, printing, ordering, counting, listing}
 use Rattle.rules.specs.Keeping.{ready, held, found, stored, pressing}
 use Rattle.rules.proofs.CountIsField.{count-most, field-is, counted}
 use Rattle.rules.proofs.EncodeDecode.{record-is}
@@ -56,6 +57,15 @@ pub data OrderRefuses (r : List ℕ) (k : ℕ) (old : List ℕ) : ℕ → ℕ �
 -- "Count: 18"
 pub data CountRefuses : ℕ → ℕ → Type 0 where
   notWellFormed : CountRefuses 18 0
+
+-- the bytes are the list of a record's orders
+abbrev pub Listed : List ℕ → List ℕ → Type 0
+Listed r w = mapR listBytes (recordOf r) ≡ ok w
+
+-- M-106: "18, then 17 with the bytes needed": the length of the record's list
+pub data ListRefuses (r old : List ℕ) : ℕ → ℕ → Type 0 where
+  notWellFormed : ListRefuses r old 18 0
+  noRoom : {w : List ℕ} → Listed r w → length old < length w → ListRefuses r old 17 (length w)
 
 -- M-100: "20, a key to be held when 1,024 bytes of a line not ready are held, or any key to a keeper whose count passes 1,024, place 1,024"
 pub data KeyRefuses (k : Keeper) (c : ℕ) : ℕ → ℕ → Type 0 where
@@ -188,6 +198,18 @@ counting-comes r =
 
 pub count-list : (r : List ℕ) (n p : ℕ) → counting r ≡ bad n p → CountRefuses n p
 count-list r n p e = comes-bad CountRefuses Orders (counting r) n p (counting-comes r) e
+
+-- 18 of what is no record, else its list, or 17 at the list's length
+pub listing-comes : (r old : List ℕ) → Comes (ListRefuses r old) (Listed r) (listing r old)
+unfolding listing
+listing-comes r old =
+    fitted-comes (ListRefuses r old) (Listed r) old (mapR listBytes (recordOf r))
+    (comes-self (ListRefuses r old) Whatever (mapR listBytes (recordOf r))
+    (map-comes (ListRefuses r old) (λ c. wellFormed c ≡ true) Whatever listBytes (recordOf r) (record-comes (ListRefuses r old) r notWellFormed) (λ c x. tt)))
+    (λ w q h. noRoom q h)
+
+pub list-list : (r old : List ℕ) (n p : ℕ) → listing r old ≡ bad n p → ListRefuses r old n p
+list-list r old n p e = comes-bad (ListRefuses r old) (Listed r) (listing r old) n p (listing-comes r old) e
 
 -- ---- a key
 

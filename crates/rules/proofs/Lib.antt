@@ -24,6 +24,8 @@ pub mod SoleOrder
 pub mod DecodeEncode
 pub mod Progression
 pub mod DirectIsList
+pub mod PiecesAreOrders
+pub mod Fitted
 pub mod Lines
 pub mod Tables
 pub mod RefusalRows
@@ -36,6 +38,7 @@ pub mod EncodeDecode
 pub mod CountIsField
 pub mod TextBound
 pub mod RecordBound
+pub mod ListBound
 pub mod AnswersFit
 pub mod KeeperIsList
 pub mod ReadyLine

@@ -2,7 +2,8 @@
 use Prim.Native.Nat.{ℕ, _≤_, _<_}
 use mathlib.Core.Path.{_≡_, refl, sym, ap, _∙_, subst}
 use mathlib.Core.Bool.{true}
-use mathlib.Core.List.{List, [], _∷_}
+use mathlib.Core.List.{List, [], _∷_, map}
+use mathlib.Core.Option.{some}
 use native.Mathlib.Omega.{arith}
 use native.Mathlib.Nat.{le-trans}
 use lib.Dec.{leb, ltb}
@@ -16,19 +17,21 @@ use Rattle.rules.specs.Records.{encode, countIn}
 use Rattle.rules.specs.WellFormed.{wellFormed, recordOf}
 use Rattle.rules.specs.Printing.{print}
 use Rattle.rules.specs.Orders.{orders, orderAt, count}
-use Rattle.rules.specs.Answers.{fitted, reading, printing, ordering}
+use Rattle.rules.specs.Listing.{listBytes, piecesOf}
+use Rattle.rules.specs.Answers.{fitted, reading, printing, ordering, listing}
 use Rattle.rules.proofs.CountIsField.{counted, order-count, order-one}
 use Rattle.rules.proofs.DirectIsList.{count-is, direct-is}
 use Rattle.rules.proofs.EncodeDecode.{IsRecord, record-is, record-of}
 use Rattle.rules.proofs.NeverLonger.{never-longer, read-most}
 use Rattle.rules.proofs.OrderFits.{order-fits}
 use Rattle.rules.proofs.OrderWellFormed.{order-wf}
+use Rattle.rules.proofs.PiecesAreOrders.{list-back, piece-count, piece-at}
 use Rattle.rules.proofs.ReadSound.{read-wf}
 use Rattle.rules.proofs.ResultLaws.{ok-inj, ok≢bad, bind-ok, map-ok, guard-ok}
 use Rattle.rules.proofs.RoundTrip.{read-print}
 use Rattle.rules.proofs.SoleOrder.{order-sole}
 use Rattle.grammar.proofs.Exact.{sound, complete}
-use Rattle.theorems.specs.Demands.{Accepted, Accepts, ReadWithoutRoom, RefusedForRoomAlone, Printable, PrintsGivenRoom, PrintWithoutRoom, PrintThenRead, ReadThenPrint, Past, Ordered, OrdersGivenRoom, OrderCarriesOne, OrdersAreListed, SoleOrderOnBytes}
+use Rattle.theorems.specs.Demands.{Accepted, Accepts, ReadWithoutRoom, RefusedForRoomAlone, Printable, PrintsGivenRoom, PrintWithoutRoom, PrintThenRead, ReadThenPrint, Past, Ordered, OrdersGivenRoom, OrderCarriesOne, OrdersAreListed, SoleOrderOnBytes, ListThenOrder}
 
 -- ---- reading and printing
 
@@ -181,3 +184,25 @@ sole-order-on-bytes r o t old new also k h p room =
       counted = counted o d is ∙ ap ok counts;
       only = rw (is, counts, first) (fitted-as also (encode d) o (x .bytes) room);
     }
+
+-- ---- the list
+
+pub list-then-order : ListThenOrder
+unfolding listing
+list-then-order r old bytes h =
+    fitted-is old (mapR listBytes (recordOf r)) bytes h
+    (λ a _.
+    map-ok listBytes (recordOf r) bytes a
+    (λ c q e.
+    let ws : List (List ℕ) = map encode (orders c) in
+    let well : wellFormed c ≡ true = (record-is r c q) .well in
+    let many : length ws ≡ count c = piece-count c well in
+    record {
+      pieces = ws;
+      are = e;
+      readAgain = subst (λ x. piecesOf x ≡ some ws) e (list-back c);
+      many = counted r c q ∙ ap ok (sym many);
+      each = λ k room lt fits.
+          let below : k < count c = rw many at lt in
+          (orders-given-room r k room (getD ws k [])) .1 (record { tree = c; is = q; below = below; bytes = sym (piece-at c k well below); room = fits });
+    }))

@@ -1,24 +1,27 @@
 -- Each demand has its proof: the theorems of `rules` and `grammar` under the demands' names.
 use Prim.Native.Nat.{_≤_}
-use mathlib.Core.Path.{sym, ap, _∙_, subst}
+use mathlib.Core.Path.{refl, sym, ap, _∙_, subst}
+use mathlib.Core.List.{map}
 use native.Mathlib.Nat.{le-trans}
 use lib.ListN.{length}
-use Rattle.rules.proofs.AnswersFit.{reading-most, printing-most, ordering-most, counting-most, pressing-most}
-use Rattle.rules.proofs.CallRows.{reads-are, prints-are, orders-are, counts-are}
+use Rattle.rules.proofs.AnswersFit.{reading-most, printing-most, ordering-most, counting-most, listing-most, pressing-most}
+use Rattle.rules.proofs.CallRows.{reads-are, prints-are, orders-are, counts-are, lists-are}
 use Rattle.rules.proofs.Capitals.{capitals}
 use Rattle.rules.proofs.CountIsField.{answers-field, field-length, begins-with, other-number, without-field}
 use Rattle.rules.proofs.DecodeEncode.{decode-encode}
 use Rattle.rules.proofs.DirectIsList.{count-is, direct-is}
-use Rattle.rules.proofs.EncodeDecode.{record-is, record-of}
-use Rattle.rules.proofs.FromTheList.{reader-list, printer-list, order-list, count-list, key-list}
+use Rattle.rules.proofs.EncodeDecode.{record-is, record-of, record-refused}
+use Rattle.rules.proofs.FromTheList.{reader-list, printer-list, order-list, count-list, list-list, key-list}
 use Rattle.rules.proofs.KeeperIsList.{after-keys, answers-keys, fresh-keys}
 use Rattle.rules.proofs.KeptLines.{ready-last, accepted-typed}
 use Rattle.rules.proofs.KeyRows.{runs-are, full-line, keys-are}
 use Rattle.rules.proofs.Lines.{lines, example-is, at-limits}
+use Rattle.rules.proofs.ListBound.{piece-small}
 use Rattle.rules.proofs.NamesDiffer.{names-differ}
 use Rattle.rules.proofs.NeverLonger.{never-longer}
 use Rattle.rules.proofs.OrderFits.{order-fits}
 use Rattle.rules.proofs.OrderWellFormed.{order-wf}
+use Rattle.rules.proofs.PiecesAreOrders.{list-back, split-once, piece-count, piece-at, listed, list-no-room, not-listed}
 use Rattle.rules.proofs.ReadSound.{read-wf}
 use Rattle.rules.proofs.ReadyLine.{ready-line}
 use Rattle.rules.proofs.RecordBound.{record-bound}
@@ -27,11 +30,13 @@ use Rattle.rules.proofs.RoundTrip.{read-print}
 use Rattle.rules.proofs.SoleOrder.{order-sole}
 use Rattle.rules.proofs.Tables.{classes-are, ranges-are, capitals-are, digits-are, keyed-are, letters-are, letters-only, words-are, units-are, units-listed, separators-are, tags-are, refusal-numbers, limits-are}
 use Rattle.rules.proofs.WellFormedIsReadable.{well-formed-is-readable}
+use Rattle.rules.specs.Refusals.{notWellFormed}
 use Rattle.rules.specs.Reading.{read}
-use Rattle.rules.specs.Orders.{orderAt}
+use Rattle.rules.specs.Records.{encode}
+use Rattle.rules.specs.Orders.{orders, orderAt}
 use Rattle.rules.specs.Keeping.{held, keeperAfter}
 use Rattle.grammar.proofs.Exact.{sound, complete, unique, refused}
-use Rattle.theorems.specs.Demands.{Twelve, Example84, FromTheList, AnswersFit, Decided, CountDecided, KeyDecided, Exact, Unique, Refused, ReadSound, NamesDiffer, Capitals, WellFormedIsReadable, RoundTrip, NeverLonger, DecodeEncode, EncodeDecode, RecordBound, DirectIsList, CountIsLength, CountIsField, OrderCarriesOne, FieldIsAsked, Past, OrderWellFormed, OrderFits, SoleOrder, Accepts, ReadWithoutRoom, RefusedForRoomAlone, PrintsGivenRoom, PrintWithoutRoom, PrintThenRead, ReadThenPrint, OrdersGivenRoom, OrdersAreListed, SoleOrderOnBytes, KeeperIsList, FreshKeeper, ReadyLine, AcceptedIsTyped, ReadyLast, ClassesOfBytes, RangesOfBytes, CapitalLetters, DigitsOfBases, KeyedDigits, BaseLetters, WordsByRule, UnitsOfACommand, SeparatorTexts, TableOfTags, RefusalNumbers, Limits, CellsOfRefusals, CallRows, KeyRows}
+use Rattle.theorems.specs.Demands.{Twelve, Example84, FromTheList, AnswersFit, Decided, CountDecided, KeyDecided, Exact, Unique, Refused, ReadSound, NamesDiffer, Capitals, WellFormedIsReadable, RoundTrip, NeverLonger, DecodeEncode, EncodeDecode, RecordBound, DirectIsList, CountIsLength, CountIsField, OrderCarriesOne, FieldIsAsked, Past, OrderWellFormed, OrderFits, SoleOrder, PiecesAreOrders, PiecesSplitOnce, ListThenOrder, ListRefused, Accepts, ReadWithoutRoom, RefusedForRoomAlone, PrintsGivenRoom, PrintWithoutRoom, PrintThenRead, ReadThenPrint, OrdersGivenRoom, OrdersAreListed, SoleOrderOnBytes, KeeperIsList, FreshKeeper, ReadyLine, AcceptedIsTyped, ReadyLast, ClassesOfBytes, RangesOfBytes, CapitalLetters, DigitsOfBases, KeyedDigits, BaseLetters, WordsByRule, UnitsOfACommand, SeparatorTexts, TableOfTags, RefusalNumbers, Limits, CellsOfRefusals, CallRows, KeyRows}
 use Rattle.theorems.proofs.Calls
 
 twelve-lines : Twelve
@@ -41,10 +46,10 @@ example-84 : Example84
 example-84 = example-is
 
 from-the-list : FromTheList
-from-the-list = (reader-list, printer-list, order-list, count-list, key-list)
+from-the-list = (reader-list, printer-list, order-list, count-list, list-list, key-list)
 
 answers-fit : AnswersFit
-answers-fit = (reading-most, printing-most, ordering-most, counting-most, pressing-most)
+answers-fit = (reading-most, printing-most, ordering-most, counting-most, listing-most, pressing-most)
 
 decided : Decided
 decided result old a b new also p q = (p .answers ∙ sym (q .answers), p .holds ∙ sym (q .holds))
@@ -120,6 +125,27 @@ fits = order-fits
 sole-order : SoleOrder
 sole-order c k h few =
     (read-print (orderAt c k) (order-wf c k h) (le-trans (order-fits c k h) few), order-sole c k)
+
+pieces-are-orders : PiecesAreOrders
+pieces-are-orders c h =
+    record {
+      pieces = map encode (orders c);
+      are = refl;
+      small = λ k lt. piece-small c k h lt;
+      readAgain = list-back c;
+      many = piece-count c h;
+      each = λ k lt. piece-at c k h lt;
+    }
+
+pieces-split-once : PiecesSplitOnce
+pieces-split-once = split-once
+
+listed-then-ordered : ListThenOrder
+listed-then-ordered = Calls.list-then-order
+
+list-refused : ListRefused
+list-refused r old =
+    (λ none. not-listed r old notWellFormed 0 (record-refused r none), λ c h short. list-no-room r old c h short, λ c h room. listed r old c h room)
 
 accepted : Accepts
 accepted = Calls.accepts
@@ -207,7 +233,7 @@ cells-of-refusals : CellsOfRefusals
 cells-of-refusals = (cells-are, scanned-are)
 
 rows-of-calls : CallRows
-rows-of-calls = (reads-are, prints-are, orders-are, counts-are)
+rows-of-calls = (reads-are, prints-are, orders-are, counts-are, lists-are)
 
 rows-of-keys : KeyRows
 rows-of-keys = (runs-are, full-line, keys-are)

@@ -1,5 +1,5 @@
 -- What was asked for, as types: the user's words, and below them the statement. `proofs/Proved` has a term of each, under a name in small letters.
--- First the three demands; then the same over the four calls, on bytes; then the line keeper; last the witnesses, tables from the paper for what reader, grammar and printer share.
+-- First the three demands; then the same over the calls, on bytes; then the line keeper; last the witnesses, tables from the paper for what reader, grammar and printer share.
 use Prim.Native.Nat.{ℕ, _≤_, _<_}
 use mathlib.Core.Path.{_≡_}
 use mathlib.Core.Bool.{true, false, _&&_, not}
@@ -8,7 +8,7 @@ use mathlib.Core.Option.{some}
 use lib.Dec.{eqb}
 use lib.ListN.{length, getD}
 use Rattle.laws.specs.Keys.{anyOf}
-use Rattle.laws.specs.Lists.{all}
+use Rattle.laws.specs.Lists.{all, concat}
 use Rattle.rules.specs.declared.Answer.{Answer}
 use Rattle.rules.specs.declared.Keeper.{Keeper}
 use Rattle.rules.specs.declared.Pressed.{Pressed}
@@ -21,14 +21,15 @@ use Rattle.rules.specs.Records.{fourBytes, fieldsOf, bytesOf, encode, decode, c
 use Rattle.rules.specs.WellFormed.{wellFormed, recordOf}
 use Rattle.rules.specs.Printing.{print}
 use Rattle.rules.specs.Orders.{orders, orderAt, count}
-use Rattle.rules.specs.Answers.{reading, printing, ordering, counting, answered, valueOf, Promise, Counts}
+use Rattle.rules.specs.Listing.{joined, listBytes, piecesOf}
+use Rattle.rules.specs.Answers.{reading, printing, ordering, counting, listing, answered, valueOf, Promise, Counts}
 use Rattle.rules.specs.Keeping.{ready, press, Possible, held, pressing, afterKey, lineAfter, lineAnswers, keeperAfter, keeperAnswers}
 use Rattle.rules.proofs.Lines.{found, stated, twelve, example, example77, answer, due, limits, tally, expected}
-use Rattle.rules.proofs.FromTheList.{ReaderRefuses, PrinterRefuses, OrderRefuses, CountRefuses, KeyRefuses}
+use Rattle.rules.proofs.FromTheList.{ReaderRefuses, PrinterRefuses, OrderRefuses, CountRefuses, ListRefuses, KeyRefuses}
 use Rattle.rules.proofs.KeptLines.{lastEnds, Typed}
 use Rattle.rules.proofs.KeyRows.{runFound, runStated, runs, most, full, keyFound, keyStated, keys}
 use Rattle.rules.proofs.RefusalRows.{cells, scanned}
-use Rattle.rules.proofs.CallRows.{readFound, readStated, reads, printFound, printStated, prints, orderFound, orderStated, ordersAsked, countFound, countStated, countsAsked}
+use Rattle.rules.proofs.CallRows.{readFound, readStated, reads, printFound, printStated, prints, orderFound, orderStated, ordersAsked, countFound, countStated, countsAsked, listFound, listStated, listsAsked}
 use Rattle.rules.proofs.Tables.{opens, tested, printed, classes, members, ranges, baseFound, baseStated, baseRows, five, isBase, wordFound, wordStated, wordRows, unitFound, unitStated, unitRows, unitsRead, unitsDue, sepFound, sepStated, sepRows, whole, wholeRecord}
 use Rattle.grammar.specs.Grammar.{Follows}
 
@@ -51,6 +52,7 @@ FromTheList =
     × ((r old : List ℕ) (n p : ℕ) → printing r old ≡ bad n p → PrinterRefuses old n p)
     × ((r : List ℕ) (k : ℕ) (old : List ℕ) (n p : ℕ) → ordering r k old ≡ bad n p → OrderRefuses r k old n p)
     × ((r : List ℕ) (n p : ℕ) → counting r ≡ bad n p → CountRefuses n p)
+    × ((r old : List ℕ) (n p : ℕ) → listing r old ≡ bad n p → ListRefuses r old n p)
     × ((k : Keeper) (c n p : ℕ) → pressing k c ≡ bad n p → KeyRefuses k c n p)
 
 -- bytes written, number of orders or place: every value fits the 32 bits that the answer has for it
@@ -60,6 +62,7 @@ AnswersFit =
     × ((r old : List ℕ) → valueOf (answered (mapR length (printing r old))) ≤ 65536)
     × ((r : List ℕ) (k : ℕ) (old : List ℕ) → valueOf (answered (mapR length (ordering r k old))) ≤ 65536)
     × ((r : List ℕ) → valueOf (answered (counting r)) ≤ 65536)
+    × ((r old : List ℕ) → valueOf (answered (mapR length (listing r old))) < 4294967296)
     × ((k : Keeper) (c : ℕ) → valueOf (afterKey k c .answer) ≤ 65536)
 
 -- "Any two results satisfying it are proved equal"
@@ -174,7 +177,46 @@ SoleOrder =
     (c : Command) (k : ℕ) → wellFormed c ≡ true → length (print c) ≤ mostText
     → (read (bases (orderAt c k)) (print (orderAt c k)) ≡ ok (orderAt c k)) × (orders (orderAt c k) ≡ orderAt c k ∷ [])
 
--- ======== the same of the four calls, on bytes
+-- ---- M-106, "The whole list on one buffer"
+
+-- "write every order of a command one behind the other, each preceded by a field of tag 14 whose content is that order's length in four bytes"; "Its k-th piece is what order k gives,
+-- for all k, and it writes as many pieces as the count."
+pub record Pieces (c : Command) (bytes : List ℕ) : Type 0 where
+  pub pieces : List (List ℕ)
+  pub are : concat (map (λ w. 14 ∷ 0 ∷ 4 ∷ (fourBytes (length w) ++ w)) pieces) ≡ bytes
+  pub small : (k : ℕ) → k < length pieces → length (getD pieces k []) < 4294967296
+  pub readAgain : piecesOf bytes ≡ some pieces
+  pub many : length pieces ≡ count c
+  pub each : (k : ℕ) → k < count c → getD pieces k [] ≡ encode (orderAt c k)
+
+-- so of every well-formed record's list, which "unrolls groups plainly, place after place, without the direct rule"
+abbrev pub PiecesAreOrders : Type 0
+PiecesAreOrders = (c : Command) → wellFormed c ≡ true → Pieces c (listBytes c)
+
+-- whatever they hold, bytes are pieces in one way only
+abbrev pub PiecesSplitOnce : Type 0
+PiecesSplitOnce = (ws vs : List (List ℕ)) → joined ws ≡ joined vs → ws ≡ vs
+
+-- what the list call wrote of a record are pieces, as many as the count call answers, and the k-th is what the order call writes, wherever there is room
+pub record CallPieces (r bytes : List ℕ) : Type 0 where
+  pub pieces : List (List ℕ)
+  pub are : joined pieces ≡ bytes
+  pub readAgain : piecesOf bytes ≡ some pieces
+  pub many : counting r ≡ ok (length pieces)
+  pub each : (k : ℕ) (room : List ℕ) → k < length pieces → length (getD pieces k []) ≤ length room → ordering r k room ≡ ok (getD pieces k [])
+
+abbrev pub ListThenOrder : Type 0
+ListThenOrder = (r old bytes : List ℕ) → listing r old ≡ ok bytes → CallPieces r bytes
+
+-- "Refusals: 18, then 17 with the bytes needed.", and with room for all of them none
+abbrev pub ListRefused : Type 0
+ListRefused =
+    (r old : List ℕ)
+    → (((c : Command) → recordOf r ≡ ok c → ⊥) → listing r old ≡ bad notWellFormed 0)
+    × ((c : Command) → recordOf r ≡ ok c → length old < length (listBytes c) → listing r old ≡ bad noRoom (length (listBytes c)))
+    × ((c : Command) → recordOf r ≡ ok c → length (listBytes c) ≤ length old → listing r old ≡ ok (listBytes c))
+
+-- ======== the same of the calls, on bytes
 
 -- some tree follows, the bytes are its record, and the buffer has room for them
 pub record Accepted (letters text old r : List ℕ) : Type 0 where
@@ -364,6 +406,7 @@ abbrev pub CallRows : Type 0
 CallRows =
     (map readFound reads ≡ map readStated reads) × (map printFound prints ≡ map printStated prints)
     × (map orderFound ordersAsked ≡ map orderStated ordersAsked) × (map countFound countsAsked ≡ map countStated countsAsked)
+    × (map listFound listsAsked ≡ map listStated listsAsked)
 
 -- M-100: runs of keys, keys to a full line, and one key to a keeper: number, value and every byte of it
 abbrev pub KeyRows : Type 0

@@ -1,6 +1,7 @@
 // Runs the lines of standard input through the library, and writes what came of each. A line is
-// `BASES|COMMAND`, `@BASES|COMMAND` where the orders are asked for, `#RECORD` with the record in
-// hexadecimal, or `!KEYS` with the keys in hexadecimal.
+// `BASES|COMMAND`, `@BASES|COMMAND` where the orders are asked for, `*BASES|COMMAND` where the whole list
+// is, `#RECORD` with the record in hexadecimal, `=RECORD` where its whole list is asked for, or `!KEYS` with
+// the keys in hexadecimal.
 mod keys;
 
 use console_figures::Decoded;
@@ -17,6 +18,13 @@ const LONGEST_LINE: usize = 4096;
 
 // So many orders of a record are all written.
 const FEW: u64 = 8;
+
+// What is asked for of a command.
+enum Asked {
+    Record,
+    Orders,
+    List,
+}
 
 // Runs standard input.
 fn main() {
@@ -54,10 +62,12 @@ fn run(block: &mut [u8; BLOCK], line: &mut [u8]) {
 // Runs a line, and ends what is written of it.
 fn run_line(line: &[u8]) {
     match byte(line, 0) {
-        b'#' => run_record(behind(line, 0)),
-        b'@' => run_command(behind(line, 0), true),
+        b'#' => run_record(behind(line, 0), Asked::Orders),
+        b'=' => run_record(behind(line, 0), Asked::List),
+        b'@' => run_command(behind(line, 0), Asked::Orders),
+        b'*' => run_command(behind(line, 0), Asked::List),
         b'!' => keys::run(behind(line, 0)),
-        _ => run_command(line, false),
+        _ => run_command(line, Asked::Record),
     }
     io::write_all(STDOUT_FILENO, b"\n");
 }
@@ -88,25 +98,25 @@ fn byte(bytes: &[u8], at: usize) -> u8 {
     if at < bytes.len() { bytes[at] } else { 0 }
 }
 
-// Reads a command behind its bases and the bar, and writes its record or its orders; or the refusal.
-fn run_command(line: &[u8], orders: bool) {
+// Reads a command behind its bases and the bar, and writes what is asked for; or the refusal.
+fn run_command(line: &[u8], asked: Asked) {
     let bar = find_bar(line);
     let text = behind(line, bar);
     io::write_all(STDOUT_FILENO, text);
     io::write_all(STDOUT_FILENO, b" -> ");
     let mut record = io::large_buffer();
     match mml::read(text, front(line, bar), &mut record) {
-        Answer::Done(n) => write_accepted(front(&record, n as usize), orders),
+        Answer::Done(n) => write_asked(front(&record, n as usize), asked),
         Answer::Refused(number, place) => write_refusal(number, place),
     }
 }
 
-// Writes what is asked for of an accepted command.
-fn write_accepted(record: &[u8], orders: bool) {
-    if orders {
-        write_orders(record);
-    } else {
-        write_record(record);
+// Writes what is asked for of a record.
+fn write_asked(record: &[u8], asked: Asked) {
+    match asked {
+        Asked::Record => write_record(record),
+        Asked::Orders => write_orders(record),
+        Asked::List => write_list(record),
     }
 }
 
@@ -160,16 +170,27 @@ fn is_read_again(record: &[u8], text: &[u8]) -> bool {
     }
 }
 
-// Takes a record in hexadecimal, and writes its number of orders and the orders.
-fn run_record(digits: &[u8]) {
+// Takes a record in hexadecimal, and writes what is asked for.
+fn run_record(digits: &[u8], asked: Asked) {
     io::write_all(STDOUT_FILENO, digits);
     io::write_all(STDOUT_FILENO, b" -> ");
     let mut record = io::large_buffer();
     match console_figures::decode(digits, &mut record) {
-        Decoded::Bytes(n) => write_orders(front(&record, n)),
+        Decoded::Bytes(n) => write_asked(front(&record, n), asked),
         Decoded::Wrong(_) => {
             io::write_all(STDOUT_FILENO, b"no hexadecimal");
         }
+    }
+}
+
+// Writes the bytes of a record's whole list.
+fn write_list(record: &[u8]) {
+    let mut list = io::large_buffer();
+    match mml::list(record, &mut list) {
+        Answer::Done(n) => {
+            console_lines::write_hex(STDOUT_FILENO, front(&list, n as usize));
+        }
+        Answer::Refused(number, place) => write_refusal(number, place),
     }
 }
 

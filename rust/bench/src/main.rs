@@ -6,6 +6,9 @@
 //! command. The rows of `key` begin with the key instead: it is taken to a keeper that holds so
 //! many letters; the keeper's count is set back before each call, on both sides alike.
 //!
+//! The rows of `list` and `orders` give all orders of a command: by one call of `list`, and by a
+//! call of `order` for each. What they take is told for one order.
+//!
 //! `bench rows` names the rows; `bench run ROW SIDE CALLS` makes calls of one side of a row and
 //! nothing else, for the script `instructions`.
 
@@ -57,8 +60,11 @@ const SMALL_LETTERS: &str = concat!(
     ":h'9&&h'ff++h'1e,k'a1b2c3d4,h'c0ffee;",
 );
 
-/// Few values with many orders: its first and its last order alone are timed.
+/// Few values with many orders: its orders alone are timed.
 const WIDE: &str = "A:0&&4094,0&&15;";
+
+/// The commands of which all orders are timed: by `list`, and one by one.
+const LISTED: [&str; 2] = [LONG, WIDE];
 
 /// The keys that are timed, each under the name that its rows have.
 const KEYS: [(&str, u8); 2] = [("letter", b'A'), ("semicolon", b';')];
@@ -66,7 +72,7 @@ const KEYS: [(&str, u8); 2] = [("letter", b'A'), ("semicolon", b';')];
 /// The bytes that a keeper holds when a key is timed.
 const HELD: [u32; 2] = [10, 1_000];
 
-const HEAD: &str = "command       call    text  record      k";
+const HEAD: &str = "command       call    text  record      k orders";
 
 /// A call on one side: gives the answer's value.
 type Side<'a> = Box<dyn FnMut() -> u32 + 'a>;
@@ -78,6 +84,8 @@ struct Row<'a> {
     text: usize,
     record: Option<usize>,
     k: Option<u64>,
+    /// Among how many orders one call is shared.
+    orders: Option<u32>,
     library: Side<'a>,
     model: Side<'a>,
 }
@@ -91,7 +99,7 @@ fn main() -> ExitCode {
     }
     match words[..] {
         [] => table(61),
-        ["rows"] => list(),
+        ["rows"] => name_rows(),
         ["run", row, side, calls] => return run(row, side, calls),
         [batches] => match batches.parse() {
             Ok(batches) if batches > 0 => table(batches),
@@ -111,16 +119,25 @@ fn usage() -> ExitCode {
 fn table(batches: usize) {
     let commands = Commands::new();
     println!(
-        "nanoseconds per call, median of {batches} interleaved batches; \
+        "nanoseconds per call or order, median of {batches} interleaved batches; \
          buffers large enough and not cleared between calls"
     );
     println!("{HEAD} {:>9} {:>9} {:>6}", "library", "model", "ratio");
-    let times: Vec<(f64, f64)> = commands.rows().map(|row| row.time(batches)).collect();
-    if let [few, many, .., first, last] = times[..] {
+    let rows = commands.rows();
+    let times: Vec<(&str, &str, (f64, f64))> = rows
+        .map(|row| (row.command, row.call, row.time(batches)))
+        .collect();
+    if let [(_, _, few), (_, _, many), .., (_, _, first), (_, _, last)] = times[..] {
         let [few_held, many_held] = HELD;
         let letter = format!("a letter at {many_held} bytes held against {few_held}");
         against(&letter, many, few);
         against(&format!("last k of {WIDE} against k = 0"), last, first);
+    }
+    for pair in times.windows(2) {
+        if let [(command, "list", list), (_, "orders", orders)] = *pair {
+            let what = format!("an order of `{command}` by itself against one in the list");
+            against(&what, orders, list);
+        }
     }
 }
 
@@ -131,7 +148,7 @@ fn against(what: &str, one: (f64, f64), other: (f64, f64)) {
 }
 
 /// Names every row.
-fn list() {
+fn name_rows() {
     println!("{HEAD}");
     for row in Commands::new().rows() {
         println!("{}", row.name());
@@ -164,13 +181,17 @@ struct Command {
 }
 
 impl Command {
-    /// Its rows: every call, the first order and the last if that is another; of the wide one
-    /// the orders alone.
+    /// Its rows: every call, all orders if they are timed, the first order and the last if that is
+    /// another; of the wide one the orders alone.
     fn rows(&self) -> Vec<Row<'_>> {
-        let last = model::count(&self.record).map_or(0, u64::from) - 1;
+        let orders = model::count(&self.record).unwrap_or(0);
+        let last = u64::from(orders) - 1;
         let mut rows = Vec::new();
         if self.text != WIDE {
             rows.extend([read(self), print(self), count(self)]);
+        }
+        if LISTED.contains(&self.text) {
+            rows.extend([list(self, orders), all_orders(self, orders)]);
         }
         rows.push(order(self, 0));
         if last > 0 {
@@ -226,6 +247,7 @@ fn key(name: &'static str, typed: u8, held: u32) -> Row<'static> {
         text: held as usize,
         record: None,
         k: None,
+        orders: None,
         library: Box::new(move || {
             keeper.count = held;
             let answer = black_box(&mut keeper).key(black_box(typed));
@@ -249,6 +271,7 @@ fn read(command: &Command) -> Row<'_> {
         text: bytes.len(),
         record: Some(command.record.len()),
         k: None,
+        orders: None,
         library: Box::new(move || {
             let answer = mml::read(black_box(bytes), b"", black_box(&mut out));
             answer.map_or(0, |length| length as u32)
@@ -270,6 +293,7 @@ fn print(command: &Command) -> Row<'_> {
         text: command.text.len(),
         record: Some(record.len()),
         k: None,
+        orders: None,
         library: Box::new(move || {
             let answer = mml::print(black_box(record), black_box(&mut out));
             answer.map_or(0, |length| length as u32)
@@ -289,6 +313,7 @@ fn count(command: &Command) -> Row<'_> {
         text: command.text.len(),
         record: Some(record.len()),
         k: None,
+        orders: None,
         library: Box::new(move || mml::count(black_box(record)).unwrap_or(0)),
         model: Box::new(move || model::count(black_box(record)).unwrap_or(0)),
     }
@@ -304,6 +329,7 @@ fn order(command: &Command, k: u64) -> Row<'_> {
         text: command.text.len(),
         record: Some(record.len()),
         k: Some(k),
+        orders: None,
         library: Box::new(move || {
             let answer = mml::order(black_box(record), black_box(k), black_box(&mut out));
             answer.map_or(0, |length| length as u32)
@@ -315,17 +341,72 @@ fn order(command: &Command, k: u64) -> Row<'_> {
     }
 }
 
+/// All orders, by one call.
+fn list(command: &Command, orders: u32) -> Row<'_> {
+    let record = &command.record[..];
+    let length = list_len(record);
+    let (mut out, mut other) = (vec![0; length], vec![0; length]);
+    Row {
+        command: command.name,
+        call: "list",
+        text: command.text.len(),
+        record: Some(record.len()),
+        k: None,
+        orders: Some(orders),
+        library: Box::new(move || {
+            let answer = mml::list(black_box(record), black_box(&mut out));
+            answer.map_or(0, |length| length as u32)
+        }),
+        model: Box::new(move || {
+            let answer = model::list(black_box(record), black_box(&mut other));
+            answer.map_or(0, |length| length as u32)
+        }),
+    }
+}
+
+/// The bytes of a record's list, the same from both sides.
+fn list_len(record: &[u8]) -> usize {
+    let refusal = mml::list(record, &mut []).expect_err("a list has bytes");
+    let same = model::list(record, &mut []).expect_err("a list has bytes");
+    assert_eq!(refusal, mml::Refusal::BufferTooShort(same.place));
+    same.place as usize
+}
+
+/// All orders, one by one. The value that is given is the bytes of all of them.
+fn all_orders(command: &Command, orders: u32) -> Row<'_> {
+    let record = &command.record[..];
+    let mut out = vec![0; record.len()];
+    let mut other = out.clone();
+    Row {
+        command: command.name,
+        call: "orders",
+        text: command.text.len(),
+        record: Some(record.len()),
+        k: None,
+        orders: Some(orders),
+        library: Box::new(move || {
+            let length = |k| mml::order(black_box(record), k, black_box(&mut out)).unwrap_or(0);
+            (0..u64::from(orders)).map(length).sum::<usize>() as u32
+        }),
+        model: Box::new(move || {
+            let length = |k| model::order(black_box(record), k, black_box(&mut other)).unwrap_or(0);
+            (0..u64::from(orders)).map(length).sum::<usize>() as u32
+        }),
+    }
+}
+
 impl Row<'_> {
     /// What the row is about, under `HEAD`.
     fn name(&self) -> String {
         let shown = |number: Option<u64>| number.map_or("-".into(), |number| number.to_string());
         format!(
-            "{:<13} {:<6} {:>5} {:>7} {:>6}",
+            "{:<13} {:<6} {:>5} {:>7} {:>6} {:>6}",
             self.command,
             self.call,
             self.text,
             shown(self.record.map(|bytes| bytes as u64)),
-            shown(self.k)
+            shown(self.k),
+            shown(self.orders.map(u64::from))
         )
     }
 
@@ -334,7 +415,10 @@ impl Row<'_> {
         let (library, model) = ((self.library)(), (self.model)());
         assert!(library > 0 && library == model, "the answers differ");
         let name = self.name();
-        let calls = calls_per_batch(&mut self.model);
+        let calls = match self.orders {
+            Some(_) => 1,
+            None => calls_per_batch(&mut self.model),
+        };
         let mut times = [Vec::new(), Vec::new()];
         for batch in 0..batches {
             for turn in 0..2 {
@@ -343,7 +427,8 @@ impl Row<'_> {
                 times[side].push(batch_time(call, calls));
             }
         }
-        let [library, model] = times.map(median);
+        let orders = f64::from(self.orders.unwrap_or(1));
+        let [library, model] = times.map(|times| median(times) / orders);
         println!(
             "{name} {library:>9.1} {model:>9.1} {:>6.2}",
             library / model

@@ -18,6 +18,8 @@ pub enum Call<'i> {
     Order(&'i [u8], u64),
     /// A record.
     Count(&'i [u8]),
+    /// A record.
+    List(&'i [u8]),
     /// A keeper, which is what the buffer holds before, and a key.
     Key(&'i [u8], u8),
 }
@@ -81,7 +83,10 @@ impl Call<'_> {
     pub fn inputs(&self) -> (&[u8], &[u8]) {
         match self {
             Call::Read(text, bases) => (text, bases),
-            Call::Print(record) | Call::Order(record, _) | Call::Count(record) => (record, &[]),
+            Call::Print(record)
+            | Call::Order(record, _)
+            | Call::Count(record)
+            | Call::List(record) => (record, &[]),
             Call::Key(..) => (&[], &[]),
         }
     }
@@ -94,6 +99,7 @@ impl Call<'_> {
             Call::Print(_) => Call::Print(first),
             Call::Order(_, k) => Call::Order(first, *k),
             Call::Count(_) => Call::Count(first),
+            Call::List(_) => Call::List(first),
             Call::Key(_, key) => Call::Key(first, *key),
         }
     }
@@ -106,6 +112,7 @@ impl Call<'_> {
             Call::Print(record) => model::print(record, out).map(length),
             Call::Order(record, k) => model::order(record, *k, out).map(length),
             Call::Count(record) => model::count(record),
+            Call::List(record) => model::list(record, out).map(length),
             Call::Key(_, key) => model_key(out, *key).map(u32::from),
         }
         .map_err(|refusal| (u32::from(refusal.number), refusal.place))
@@ -131,6 +138,7 @@ impl Call<'_> {
             Call::Print(record) => ("print", String::new(), record),
             Call::Order(record, k) => ("order", format!("k        {k}\n"), record),
             Call::Count(record) => ("count", String::new(), record),
+            Call::List(record) => ("list", String::new(), record),
             Call::Key(keeper, key) => ("key", format!("key      {key}\n"), keeper),
         };
         let mut shown = format!("call     {name}\n{k}{}", bytes_in_full("input", input));

@@ -6,7 +6,7 @@ use crate::compare::{Answer, Call};
 const NUMBERS: usize = 22;
 
 /// Each call, and the numbers that it can answer.
-const CALLS: [(&str, &[usize]); 5] = [
+const CALLS: [(&str, &[usize]); 6] = [
     (
         "read",
         &[
@@ -17,6 +17,7 @@ const CALLS: [(&str, &[usize]); 5] = [
     ("order", &[0, 17, 18, 19]),
     ("count", &[0, 18]),
     ("key", &[0, 20]),
+    ("list", &[0, 17, 18]),
 ];
 
 /// Whether a call can answer this number.
@@ -38,6 +39,7 @@ impl Coverage {
             Call::Order(..) => 2,
             Call::Count(_) => 3,
             Call::Key(..) => 4,
+            Call::List(_) => 5,
         };
         let number = answer.err().map_or(0, |(number, _)| number as usize);
         self.0[kind][number] += 1;
@@ -97,6 +99,7 @@ mod tests {
             Call::Order(b"", 0),
             Call::Count(b""),
             Call::Key(b"", 0),
+            Call::List(b""),
         ];
         let mut coverage = Coverage::default();
         for (kind, (_, numbers)) in CALLS.iter().enumerate() {
@@ -113,11 +116,12 @@ mod tests {
 
     #[test]
     fn what_no_call_answered_is_missing() {
-        assert_eq!(Coverage::default().missing().len(), 31);
+        assert_eq!(Coverage::default().missing().len(), 34);
         assert_eq!(all_but((0, 16)), ["read 16"]);
         assert_eq!(all_but((2, 19)), ["order 19"]);
         assert_eq!(all_but((3, 0)), ["count 0"]);
         assert_eq!(all_but((4, 20)), ["key 20"]);
+        assert_eq!(all_but((5, 17)), ["list 17"]);
         assert!(all_but((9, 9)).is_empty());
     }
 

@@ -116,6 +116,7 @@ mod direct {
             Call::Print(record) => mml::print(record, out).map(length),
             Call::Order(record, k) => mml::order(record, *k, out).map(length),
             Call::Count(record) => mml::count(record),
+            Call::List(record) => mml::list(record, out).map(length),
             Call::Key(_, key) => linked_key(*key, out, turn)?.map(u32::from),
         };
         Ok(match answer {
@@ -200,6 +201,7 @@ fn request(call: &Call, out: &[u8]) -> Vec<u8> {
         Call::Order(_, k) => (2, *k),
         Call::Count(_) => (3, 0),
         Call::Key(_, key) => (4, u64::from(*key)),
+        Call::List(_) => (5, 0),
     };
     let (first, second) = call.inputs();
     let mut request = vec![number];

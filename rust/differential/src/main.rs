@@ -5,7 +5,8 @@
 //! all kinds. Each goes through the calls on both
 //! sides, with buffers that are large, just fit, are one byte too short and empty. Other inputs
 //! are runs of keys to a keeper. Answers and all bytes must be alike, a keeper's too. Then the
-//! library alone must keep what its calls promise together.
+//! library alone must keep what its calls promise together: a list's pieces are the orders.
+//! Lists that are long are written now and then; of the others the bytes needed are compared.
 //! The first difference ends the run with the input in full. With `show` each input is
 //! printed before it is tried, for a library that does not return.
 //!
@@ -13,8 +14,8 @@
 //! until there are, and fails if a quarter of an hour is not enough. It fails too unless every
 //! call gave each answer that it can give: success and, all calls together, every refusal; and
 //! unless the inputs that were made had numerals in small letters, read in commands and refused
-//! in records, had records refused for the number of their orders alone, and showed all that keys
-//! do. The same SEED gives the same inputs.
+//! in records, had records refused for the number of their orders alone, gave lists of each kind,
+//! and showed all that keys do. The same SEED gives the same inputs.
 
 mod commands;
 mod compare;
@@ -23,6 +24,7 @@ mod keepers;
 mod keys;
 mod library;
 mod lines;
+mod lists;
 mod names;
 mod order_counts;
 mod random;
@@ -39,6 +41,7 @@ use compare::{Answer, Call, Difference, Outcome};
 use coverage::Coverage;
 use keys::{Keys, READY};
 use library::Library;
+use lists::Lists;
 use order_counts::OrderCounts;
 use random::Random;
 use small_letters::SmallLetters;
@@ -67,6 +70,16 @@ const BUFFER_TOO_SHORT: u32 = 17;
 
 /// More than any record takes.
 const ROOM: usize = 65_536;
+
+/// A list is written if it takes no more.
+const LIST: usize = 16_384;
+
+/// One list in so many is written if it takes no more than `LONG_LIST`; every one that is given is.
+const LONG_LISTS: usize = 8;
+const LONG_LIST: usize = 1 << 22;
+
+/// Of a list with more orders than these only some are asked for one by one.
+const ASKED_FOR: usize = 100;
 
 /// No text is longer, and no line that is kept.
 const TEXT: usize = 1_024;
@@ -136,6 +149,7 @@ struct Run {
     answers: Coverage,
     small_letters: SmallLetters,
     order_counts: OrderCounts,
+    lists: Lists,
     keys: Keys,
     /// Records of accepted commands.
     pool: Vec<Vec<u8>>,
@@ -155,6 +169,7 @@ impl Run {
             answers: Coverage::default(),
             small_letters: SmallLetters::default(),
             order_counts: OrderCounts::default(),
+            lists: Lists::default(),
             keys: Keys::default(),
             pool: vec![vec![12, 0, 4, 0, 0, 0, 1, 1, 0, 1, b'A']],
         }
@@ -174,6 +189,7 @@ impl Run {
             self.answers.missing(),
             self.small_letters.missing(),
             self.order_counts.missing(),
+            self.lists.missing(),
             self.keys.missing(),
         ];
         match missing.concat() {
@@ -274,6 +290,7 @@ impl Run {
     fn record(&mut self, record: &[u8]) -> Result<(), Difference> {
         self.all_rooms(Call::Print(record))?;
         let count = self.all_rooms(Call::Count(record))?.answer;
+        let list = self.all_rooms(Call::List(record))?;
         let Ok(count) = count else {
             let k = self.random.pick(&[0, 1, u64::MAX]);
             self.all_rooms(Call::Order(record, k))?;
@@ -299,7 +316,10 @@ impl Run {
             let order = self.all_rooms(Call::Order(record, k))?;
             self.order(record, k, &order.bytes)?;
         }
-        Ok(())
+        match list.answer {
+            Ok(_) => self.pieces(record, count, &list.bytes),
+            Err(_) => Ok(()),
+        }
     }
 
     /// Tries a call with a large buffer, one that just fits, one that is a byte too short, and
@@ -316,6 +336,7 @@ impl Run {
         if self.is_made() {
             self.small_letters.note(call, &outcome);
             self.order_counts.note(call, outcome.answer);
+            self.lists.note(call, &outcome);
         }
         for room in [needed, needed.saturating_sub(1), 0] {
             let answer = call
@@ -329,10 +350,15 @@ impl Run {
         Ok(outcome)
     }
 
-    /// The bytes that a call needs, as the model tells with an empty buffer.
-    fn room_needed(&self, call: Call) -> Option<usize> {
+    /// The bytes that a call needs, as the model tells with an empty buffer, if so many are lent.
+    fn room_needed(&mut self, call: Call) -> Option<usize> {
+        let most = match call {
+            Call::List(_) if self.is_made() && !self.random.one_in(LONG_LISTS) => LIST,
+            Call::List(_) => LONG_LIST,
+            _ => ROOM,
+        };
         match call.model(&mut []) {
-            Err((BUFFER_TOO_SHORT, needed)) if needed as usize <= ROOM => Some(needed as usize),
+            Err((BUFFER_TOO_SHORT, needed)) if needed as usize <= most => Some(needed as usize),
             _ => None,
         }
     }
@@ -390,6 +416,32 @@ impl Run {
         self.printed(order, None)
     }
 
+    /// What the library alone must keep of a list: it has as many pieces as there are orders, and
+    /// piece k is order k.
+    fn pieces(&mut self, record: &[u8], count: u64, list: &[u8]) -> Result<(), Difference> {
+        let call = Call::List(record);
+        let Some(pieces) = lists::pieces(list) else {
+            return Err(call.alone("the list is not made of pieces"));
+        };
+        if pieces.len() as u64 != count {
+            let pieces = pieces.len();
+            return Err(call.alone(&format!("{pieces} pieces, and {count} orders")));
+        }
+        for n in 0..pieces.len().min(ASKED_FOR) {
+            let k = match n {
+                _ if pieces.len() <= ASKED_FOR => n,
+                0 => pieces.len() - 1,
+                _ => self.random.below(pieces.len()),
+            };
+            let mut order = vec![0; pieces[k].len()];
+            let answer = self.ask(Call::Order(record, k as u64), &mut order)?;
+            if answer != Ok(order.len() as u32) || order != pieces[k] {
+                return Err(call.alone(&format!("piece {k} is not order {k}")));
+            }
+        }
+        Ok(())
+    }
+
     /// Tells what the run has seen.
     fn summary(&self, time: Duration) {
         println!(
@@ -405,6 +457,7 @@ impl Run {
         self.answers.show();
         self.small_letters.show();
         self.order_counts.show();
+        self.lists.show();
         self.keys.show();
     }
 }

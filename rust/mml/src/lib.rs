@@ -2,11 +2,11 @@
 //!
 //! A [`Keeper`] takes what an operator types, one key at a time, and tells when its line is
 //! ready. [`read`] makes a record of a command's text, [`print`] a command's text of a record,
-//! [`count`] tells how many orders a record has, and [`order`] gives order number `k` as a
-//! record. The library keeps no state: a line is held by its keeper alone. The calls allocate
-//! nothing and may run on any number of threads at once. A call that refuses writes nothing; a
-//! call that succeeds writes the bytes that it answers at the buffer's start and leaves the rest
-//! of the buffer as it was.
+//! [`count`] tells how many orders a record has, [`order`] gives order number `k` as a record, and
+//! [`list`] writes all of them, for [`pieces`] to walk over. The library keeps no state: a line is
+//! held by its keeper alone. The calls allocate nothing and may run on any number of threads at
+//! once. A call that refuses writes nothing; a call that succeeds writes the bytes that it answers
+//! at the buffer's start and leaves the rest of the buffer as it was.
 //!
 //! ```
 //! let mut record = [0; 128];
@@ -30,6 +30,7 @@
 
 use core::error::Error;
 use core::fmt;
+use core::iter::FusedIterator;
 
 /// No text is longer, and no line that is kept: a buffer of this size always suffices for
 /// [`print`].
@@ -46,6 +47,9 @@ pub const KEY_BS: u8 = 8;
 
 /// The key that empties the line.
 pub const KEY_CAN: u8 = 24;
+
+/// The tag of an order's length in a list.
+const TAG_LENGTH: u8 = 14;
 
 /// Makes the refusals of one table: what is said of each, its number, its name, its sentence.
 macro_rules! refusals {
@@ -174,6 +178,7 @@ extern "C" {
     fn mml_order(record: *const u8, record_len: usize, k: u64, out: *mut u8, out_len: usize)
         -> u64;
     fn mml_count(record: *const u8, record_len: usize) -> u64;
+    fn mml_list(record: *const u8, record_len: usize, out: *mut u8, out_len: usize) -> u64;
     fn mml_key(keeper: *mut Keeper, key: u8) -> u64;
 }
 
@@ -234,6 +239,76 @@ pub fn count(record: &[u8]) -> Result<u32, Refusal> {
     let answer = unsafe { mml_count(record.as_ptr(), record.len()) };
     value_of(answer)
 }
+
+/// Writes all orders of a record, one behind the other from order 0 on, each behind its length;
+/// [`pieces`] walks over them. Gives the length of the list. Refuses with [`Refusal::Record`], then
+/// with [`Refusal::BufferTooShort`], whose place is the length of the whole list: a call with an
+/// empty buffer tells it.
+///
+/// ```
+/// use mml::Refusal;
+///
+/// let mut record = [0; 128];
+/// let length = mml::read(b"SET-ATT:LIN=7-1&&-3,LEV=3.5;", b"DD", &mut record)?;
+/// let record = &record[..length];
+///
+/// let Err(Refusal::BufferTooShort(needed)) = mml::list(record, &mut []) else { panic!() };
+/// let mut list = vec![0; needed as usize];
+/// assert_eq!(mml::list(record, &mut list)?, list.len());
+/// assert_eq!(mml::pieces(&list).count(), 3);
+///
+/// let mut text = [0; mml::TEXT_MAX];
+/// for (order, expected) in mml::pieces(&list).zip([
+///     b"SET-ATT:LIN=7-1,LEV=3.5;",
+///     b"SET-ATT:LIN=7-2,LEV=3.5;",
+///     b"SET-ATT:LIN=7-3,LEV=3.5;",
+/// ]) {
+///     let length = mml::print(order, &mut text)?;
+///     assert_eq!(&text[..length], expected);
+/// }
+/// # Ok::<(), Refusal>(())
+/// ```
+pub fn list(record: &[u8], out: &mut [u8]) -> Result<usize, Refusal> {
+    // SAFETY: each pointer and length are those of one slice, and only `out` is written.
+    let answer = unsafe { mml_list(record.as_ptr(), record.len(), out.as_mut_ptr(), out.len()) };
+    value_of(answer).map(|length| length as usize)
+}
+
+/// The orders of a list that [`list`] wrote, each as a record. Any other bytes are walked as far
+/// as they are whole pieces; what an order holds is not judged.
+pub const fn pieces(list: &[u8]) -> Pieces<'_> {
+    Pieces { rest: list }
+}
+
+/// The orders of a list, from the first on; [`pieces`] makes it.
+#[derive(Clone, Debug)]
+pub struct Pieces<'l> {
+    rest: &'l [u8],
+}
+
+impl<'l> Pieces<'l> {
+    /// The bytes of the list that are not walked over. Behind the last order these are none, or
+    /// those that begin no whole piece.
+    pub const fn rest(&self) -> &'l [u8] {
+        self.rest
+    }
+}
+
+impl<'l> Iterator for Pieces<'l> {
+    type Item = &'l [u8];
+
+    fn next(&mut self) -> Option<&'l [u8]> {
+        let [TAG_LENGTH, 0, 4, a, b, c, d, behind @ ..] = self.rest else {
+            return None;
+        };
+        let length = u32::from_be_bytes([*a, *b, *c, *d]) as usize;
+        let (order, rest) = behind.split_at_checked(length)?;
+        self.rest = rest;
+        Some(order)
+    }
+}
+
+impl FusedIterator for Pieces<'_> {}
 
 /// A line keeper: takes what an operator types, one key at a time.
 ///

@@ -1,4 +1,4 @@
-//! The five calls through the wrapper.
+//! The six calls through the wrapper.
 
 use std::mem::{align_of, offset_of, size_of};
 
@@ -50,6 +50,86 @@ fn count_and_order() {
     }
 }
 
+/// The list of a record, in a buffer that just fits.
+fn list(record: &[u8]) -> Vec<u8> {
+    let Err(Refusal::BufferTooShort(needed)) = mml::list(record, &mut []) else {
+        panic!("the list needs no byte");
+    };
+    let mut out = vec![0; needed as usize];
+    assert_eq!(mml::list(record, &mut out), Ok(out.len()));
+    out
+}
+
+#[test]
+fn the_pieces_of_a_list_are_the_orders() {
+    let record = record();
+    let list = list(&record);
+    let mut order = vec![0; record.len()];
+    let mut at = 0;
+    let mut pieces = mml::pieces(&list);
+    for k in 0..3 {
+        let length = mml::order(&record, k, &mut order).unwrap();
+        let head = [14, 0, 4, 0, 0, 0, length as u8];
+        assert_eq!(list[at..at + 7], head);
+        assert_eq!(pieces.next(), Some(&order[..length]));
+        at += 7 + length;
+        assert_eq!(pieces.rest(), &list[at..]);
+    }
+    assert_eq!(pieces.next(), None);
+    assert_eq!(at, list.len());
+}
+
+#[test]
+fn a_list_of_many_orders() {
+    let mut record = [0; 128];
+    let length = mml::read(b"A:0&&4094,0&&15;", b"", &mut record).unwrap();
+    let record = &record[..length];
+    let list = list(record);
+    assert_eq!(list.len(), 65_520 * 54);
+    let mut order = [0; 128];
+    for (k, piece) in mml::pieces(&list).enumerate() {
+        let length = mml::order(record, k as u64, &mut order).unwrap();
+        assert_eq!(piece, &order[..length]);
+    }
+    assert_eq!(mml::pieces(&list).count(), 65_520);
+}
+
+#[test]
+fn a_list_leaves_the_rest_of_the_buffer() {
+    let record = record();
+    let list = list(&record);
+    let mut out = vec![7; list.len() + 5];
+    assert_eq!(mml::list(&record, &mut out), Ok(list.len()));
+    assert_eq!(out[..list.len()], list);
+    assert_eq!(out[list.len()..], [7; 5]);
+}
+
+#[test]
+fn bytes_that_are_no_pieces_end_the_walk() {
+    let list = list(&record());
+    let first = mml::pieces(&list).next().unwrap();
+    let behind = 7 + first.len();
+    for length in behind..2 * behind {
+        let mut pieces = mml::pieces(&list[..length]);
+        assert_eq!(pieces.next(), Some(first));
+        assert_eq!(pieces.next(), None);
+        assert_eq!(pieces.next(), None);
+        assert_eq!(pieces.rest(), &list[behind..length]);
+    }
+    for at in 0..7 {
+        let mut broken = list.clone();
+        broken[behind + at] ^= 0x80;
+        let mut pieces = mml::pieces(&broken);
+        assert_eq!(pieces.next(), Some(first));
+        assert_eq!(pieces.next(), None);
+    }
+    assert_eq!(mml::pieces(b"").next(), None);
+    assert_eq!(mml::pieces(&record()).next(), None);
+    let empty = [14, 0, 4, 0, 0, 0, 0];
+    assert_eq!(mml::pieces(&empty).next(), Some(&b""[..]));
+    assert_eq!(mml::pieces(&empty).count(), 1);
+}
+
 #[test]
 fn the_number_of_orders_that_a_record_begins_with() {
     let mut record = record();
@@ -60,6 +140,7 @@ fn the_number_of_orders_that_a_record_begins_with() {
         assert_eq!(mml::count(&record), Err(Refusal::Record(0)));
         assert_eq!(mml::print(&record, &mut text), Err(Refusal::Record(0)));
         assert_eq!(mml::order(&record, 0, &mut text), Err(Refusal::Record(0)));
+        assert_eq!(mml::list(&record, &mut text), Err(Refusal::Record(0)));
     }
 }
 
@@ -72,6 +153,10 @@ fn a_refused_call_writes_nothing() {
     let order = mml::order(&record(), 3, &mut out);
     assert_eq!(order, Err(Refusal::NoOrder(3)));
     assert_eq!(mml::count(b"x"), Err(Refusal::Record(0)));
+    let needed = list(&record()).len() as u32;
+    let list = mml::list(&record(), &mut out);
+    assert_eq!(list, Err(Refusal::BufferTooShort(needed)));
+    assert_eq!(mml::list(b"x", &mut out), Err(Refusal::Record(0)));
     assert_eq!(out, [7; 83]);
 }
 
@@ -141,6 +226,7 @@ fn empty_slices_may_stand_anywhere() {
     assert_eq!(mml::print(&[], &mut []), Err(Refusal::Record(0)));
     assert_eq!(mml::order(&[], 0, &mut []), Err(Refusal::Record(0)));
     assert_eq!(mml::count(&[]), Err(Refusal::Record(0)));
+    assert_eq!(mml::list(&[], &mut []), Err(Refusal::Record(0)));
 }
 
 /// Takes keys to a keeper, all of which must be taken; gives whether the line is ready behind the

@@ -25,6 +25,15 @@ pub const STRING: u8 = 11;
 /// The number of orders: the field that a record begins with.
 pub const COUNT: u8 = 12;
 
+/// The length of an order, in a list: the field that stands before the order. No record has it.
+pub const LENGTH: u8 = 14;
+
+/// The bytes of a number in a field's content.
+pub const NUMBER_SIZE: usize = 4;
+
+/// The bytes that stand before an order in a list.
+pub const LENGTH_SIZE: usize = 7;
+
 /// The bytes that stand before the code.
 pub const COUNT_SIZE: usize = 7;
 
@@ -33,6 +42,13 @@ pub const COUNT_SIZE: usize = 7;
 pub fn count(orders: u32) -> [u8; COUNT_SIZE] {
     let [a, b, c, d] = orders.to_be_bytes();
     [COUNT, 0, 4, a, b, c, d]
+}
+
+/// The field that stands before an order in a list.
+#[inline(always)]
+pub fn length(bytes: u32) -> [u8; LENGTH_SIZE] {
+    let [a, b, c, d] = bytes.to_be_bytes();
+    [LENGTH, 0, 4, a, b, c, d]
 }
 
 /// The number in the field before the code, and the fields from the code on; none if the record

@@ -3,9 +3,9 @@
 //! It does what the proved library does, by the wording of document 01 and of the requests of
 //! document 02 that have landed, in plain Rust without allocation: [`key`] takes what is typed to
 //! the line of a [`Keeper`], [`read`] makes a record of a command, [`print`] a command of a record,
-//! [`count`] tells how many orders a record has, and [`order`] gives one of them. A call that
-//! refuses writes nothing; a call that succeeds writes exactly the bytes it answers, and a key that
-//! is held one byte.
+//! [`count`] tells how many orders a record has, [`order`] gives one of them, and [`list`] all. A
+//! call that refuses writes nothing; a call that succeeds writes exactly the bytes it answers, and a
+//! key that is held one byte.
 //!
 //! The model is what the library is compared with, in its answers and in its speed.
 
@@ -17,6 +17,7 @@ mod characters;
 mod fields;
 mod groups;
 mod keeper;
+mod lists;
 mod names;
 mod orders;
 mod printer;
@@ -27,6 +28,7 @@ mod units;
 mod writer;
 
 pub use keeper::{key, Keeper};
+pub use lists::list;
 pub use orders::{count, order};
 pub use printer::print;
 pub use reader::read;

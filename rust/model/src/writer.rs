@@ -38,6 +38,25 @@ impl<'o> Writer<'o> {
         self.bytes(fields::count(orders));
     }
 
+    /// The length of an order, before it.
+    #[inline]
+    pub fn length(&mut self, bytes: usize) {
+        self.bytes(fields::length(bytes as u32));
+    }
+
+    /// Fields, or parts of them, as they stand elsewhere.
+    #[inline]
+    pub fn copy(&mut self, fields: &[u8]) {
+        self.out[self.at..][..fields.len()].copy_from_slice(fields);
+        self.at += fields.len();
+    }
+
+    /// A number of four bytes.
+    #[inline]
+    pub fn number(&mut self, number: u32) {
+        self.bytes(number.to_be_bytes());
+    }
+
     /// A field of any content; no content is longer than 80 bytes.
     #[inline]
     pub fn field(&mut self, tag: u8, content: &[u8]) {
@@ -65,8 +84,8 @@ impl<'o> Writer<'o> {
     #[inline]
     pub fn range(&mut self, upper: u32, increment: u32) {
         self.bytes([fields::RANGE, 0, 8]);
-        self.bytes(upper.to_be_bytes());
-        self.bytes(increment.to_be_bytes());
+        self.number(upper);
+        self.number(increment);
     }
 
     /// A unit that has been read.

@@ -317,4 +317,7 @@ fn the_longest_record() {
     assert_eq!(print(&record), Err((2, 1024)));
     let order = order(&record, 61_439).unwrap();
     assert_eq!(order.len(), 62_372 - (63 + 63 + 14) * 335);
+    let refusal = model::list(&record, &mut []).unwrap_err();
+    let needed = 61_440 * (7 + order.len() as u32);
+    assert_eq!((refusal.number, refusal.place), (17, needed));
 }

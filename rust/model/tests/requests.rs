@@ -794,6 +794,181 @@ mod keep_the_order_count {
     }
 }
 
+/// M-106.
+mod the_whole_list_on_one_buffer {
+    use super::*;
+
+    /// The bytes that stand before an order.
+    const HEAD: usize = 7;
+
+    /// Groups of all kinds and what is none, and commands without a group.
+    const COMMANDS: &[(&str, &str)] = &[
+        ("A;", ""),
+        ("A:;", "H"),
+        ("A:,,:;", "DKD"),
+        ("A-B-C:5:N-1-M=X-\"y\"-3:K'1#,;", "HD"),
+        ("SET-ATT:LIN=7-1&&-3,LEV=3.5;", "DD"),
+        ("A:5&&5;", ""),
+        ("A:5&&9++7;", ""),
+        ("A:5&5;", ""),
+        ("A:5&&9++2&10;", ""),
+        ("A:1&2,,X:N=3&&7,M=0&1&9:,;", ""),
+        ("A:,5&6,:,7&8,;", ""),
+        ("A:5-1&&-3&8-2&-5&-6,7-1&-3&&-5;", ""),
+        (
+            "A:\"a\"-\"b\"-1&&-3&-\"c\"&\"a\"-\"b\"-4,X&\"\"&LONGER&1%;",
+            "",
+        ),
+        ("A:1-2-3-1&&-7++4&1-2-4-1&-2:B=GO&STOP,C=1&&2;", "O"),
+        ("A:h'9&&h'1f++h'a&fF,k'aB-h'A&K'Ab-h'a;", ""),
+        ("A:1&&100++10,1&&11;", "BB"),
+        ("A:4294967290&&4294967295++2;", ""),
+        (
+            "A:4294967295&&4294967295++4294967295&4294967294&&4294967295;",
+            "",
+        ),
+        ("A:0&&4294967295++2147483648,0&&4294967295++4294967295;", ""),
+        ("A:1&2,1&2,1&2,1&2,1&2,1&2,1&2,1&2,1&2,1&2;", ""),
+        ("A:0&&4095,1&&15;", ""),
+        ("A:0&&254,0&&256;", ""),
+        ("A:0&&256,0&&254;", ""),
+    ];
+
+    /// The texts of a list's pieces.
+    #[track_caller]
+    fn texts(text: &str) -> Vec<String> {
+        let list = list(&record(text, "")).unwrap();
+        let pieces = pieces(&list).into_iter();
+        pieces.map(|piece| print(piece).unwrap()).collect()
+    }
+
+    #[test]
+    fn every_order_behind_a_field_of_tag_14_with_its_length() {
+        let expected = hex(
+            "0E0004 0000001F 0C000400000001 01000141 02000150 03000144 050000 070006440000000005 \
+             0E0004 0000001F 0C000400000001 01000141 02000150 03000144 050000 070006440000000007 \
+             0E0004 0000001B 0C000400000001 01000141 02000150 03000144 050000 0900025550",
+        );
+        assert_eq!(list(&record("A:5&&8++2&UP;", "")), Ok(expected));
+        let sole = hex("0E0004 0000000B 0C000400000001 01000141");
+        assert_eq!(list(&record("A;", "")), Ok(sole));
+    }
+
+    /// "Its k-th piece is what order k gives, for all k, and it writes as many pieces as the
+    /// count."
+    #[test]
+    fn the_pieces_are_the_orders() {
+        for &(text, bases) in COMMANDS {
+            let record = record(text, bases);
+            let list = list(&record).unwrap();
+            let pieces = pieces(&list);
+            assert_eq!(count(&record), Ok(pieces.len() as u32), "{text}");
+            let mut out = vec![0; record.len()];
+            for (k, piece) in pieces.into_iter().enumerate() {
+                let length = model::order(&record, k as u64, &mut out).unwrap();
+                assert_eq!(piece, &out[..length], "order {k} of {text}");
+            }
+        }
+    }
+
+    #[test]
+    fn groups_are_unrolled_place_after_place() {
+        assert_eq!(
+            texts("A:1&&3++2,,X&Y:N=7-1&-2;"),
+            [
+                "A:1,,X:N=7-1;",
+                "A:1,,X:N=7-2;",
+                "A:1,,Y:N=7-1;",
+                "A:1,,Y:N=7-2;",
+                "A:3,,X:N=7-1;",
+                "A:3,,X:N=7-2;",
+                "A:3,,Y:N=7-1;",
+                "A:3,,Y:N=7-2;",
+            ]
+        );
+        assert_eq!(
+            texts("A:7-1&&-3&-5&8-2&&-6++2;"),
+            ["7-1", "7-2", "7-3", "7-5", "8-2", "8-4", "8-6"].map(|value| format!("A:{value};"))
+        );
+    }
+
+    #[test]
+    fn the_length_is_that_of_the_order_alone() {
+        let texts = |lengths: &[usize]| {
+            let strings = lengths.iter().map(|&n| format!("\"{}\"", "x".repeat(n)));
+            strings.collect::<Vec<String>>().join("&")
+        };
+        let text = format!("A:{},{};", texts(&[0, 80, 1]), texts(&[2, 0]));
+        let list = list(&record(&text, "")).unwrap();
+        let lengths: Vec<usize> = pieces(&list).into_iter().map(<[u8]>::len).collect();
+        let bare = 7 + 4 + 4 + 2 * (4 + 3 + 3);
+        assert_eq!(lengths, [2, 0, 82, 80, 3, 1].map(|strings| bare + strings));
+        assert_eq!(list.len(), lengths.iter().sum::<usize>() + 6 * HEAD);
+    }
+
+    #[test]
+    fn a_length_of_two_bytes() {
+        let places = [field(3, b"D"), single(), field(11, &[b'x'; 80])].concat();
+        let rest = [field(1, b"A"), field(2, b"P"), places.repeat(32)];
+        let record = one(&rest);
+        assert_eq!(record.len(), 7 + 4 + 4 + 32 * 90);
+        let expected = [hex("0E0004 00000B4F"), record.clone()].concat();
+        assert_eq!(list(&record), Ok(expected));
+    }
+
+    #[test]
+    fn the_list_of_an_order_is_the_order_behind_its_length() {
+        for &(text, bases) in COMMANDS {
+            let record = record(text, bases);
+            let order = order(&record, 0).unwrap();
+            let expected = [
+                field(14, &(order.len() as u32).to_be_bytes()),
+                order.clone(),
+            ]
+            .concat();
+            assert_eq!(list(&order), Ok(expected), "{text}");
+        }
+    }
+
+    #[test]
+    fn the_place_of_17_is_all_bytes_needed() {
+        let record = record("A:5&UP;", "");
+        let needed = 2 * HEAD + 31 + 27;
+        let mut out = vec![0x5A; needed];
+        for room in 0..needed {
+            let refusal = model::list(&record, &mut out[..room]).unwrap_err();
+            assert_eq!((refusal.number, refusal.place), (17, needed as u32));
+        }
+        assert_eq!(out, vec![0x5A; needed]);
+        assert_eq!(model::list(&record, &mut out), Ok(needed));
+    }
+
+    #[test]
+    fn eighteen_goes_before_17() {
+        let mut record = record("A:5&&8;", "");
+        for at in 0..record.len() {
+            record[at] ^= 0x80;
+            not_well_formed(&record);
+            record[at] ^= 0x80;
+        }
+        assert_eq!(model::list(&record, &mut []).unwrap_err().number, 17);
+    }
+
+    #[test]
+    fn a_list_is_no_record_and_tag_14_stands_in_none() {
+        let record = record("A:5&6;", "");
+        not_well_formed(&list(&record).unwrap());
+        not_well_formed(&list(&order(&record, 0).unwrap()).unwrap());
+        let length = field(14, &[0, 0, 0, 4]);
+        let mut behind = 0;
+        for (_, content) in fields(&record) {
+            behind += 3 + content.len();
+            not_well_formed(&[&record[..behind], &length, &record[behind..]].concat());
+        }
+        assert_eq!(behind, record.len());
+    }
+}
+
 /// M-109.
 mod terminals_without_shift_lock {
     use super::*;

@@ -1,6 +1,7 @@
 -- `order` meets its contract: the judge's answer gives the command and its row; made the plan of order k, the reduced record is order k's.
 use borrow.Author.Needs.{needs}
-use Rattle.order.proofs.AnswerLaws.{order-bad, judged-row, judged-count, judged-cut, head-room, judged-told, order-past, front-inside, front-cut, front-planned, order-at}
+use Rattle.judge.proofs.ToldLaws.{judged-row, judged-count, judged-cut, head-room, judged-told}
+use Rattle.order.proofs.AnswerLaws.{order-bad, order-past, front-inside, front-cut, front-planned, order-at}
 use Rattle.order.proofs.order.Statement.{statement}
 use Rattle.order.proofs.order.Tie as tie
 

@@ -1,6 +1,6 @@
 -- `put_order` meets its contract: an order is not longer than its record, so it is measured only where the buffer is shorter than that.
 use borrow.Author.Needs.{needs}
-use Rattle.order.proofs.AnswerLaws.{no-room, measured-fits, room}
+use Rattle.rules.proofs.Fitted.{no-room, measured-fits, room}
 use Rattle.order.proofs.LoopLaws.{planned-length, planned-fits, planned-small}
 use Rattle.order.proofs.put_order.Statement.{statement}
 use Rattle.order.proofs.put_order.Tie as tie

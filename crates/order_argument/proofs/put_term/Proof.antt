@@ -9,8 +9,8 @@ use Rattle.order_argument.proofs.put_term.Statement.{statement}
 use Rattle.order_argument.proofs.put_term.Tie as tie
 
 -- what the function was called with, before its three writers
-abbrev valued : tie.After-put-field → tie.After-term-value
-valued c = c .before .before .before
+abbrev start : tie.After-put-field → tie.Start
+start c = c .before .before .before .before .before .before
 
 abbrev first : tie.After-put-bytes → tie.After-put-field
 first c = c .before .before .before .before .before
@@ -18,11 +18,8 @@ first c = c .before .before .before .before .before
 abbrev second : tie.After-put-numeral → tie.After-put-bytes
 second c = c .before .before .before .before
 
-sizes : (s : tie.Start) → RangeSizes (now (s .args .range)) (s .args .term)
-sizes s = range-sizes (now (s .args .range)) (s .args .term) (s .pre .0)
-
-sizes-then : (c : tie.After-term-value) → let a = c .before .before .before .before .args in RangeSizes (now (a .range)) (a .term)
-sizes-then c = sizes (c .before .before .before .before)
+sizes : (s : tie.Start) → RangeSizes (now (s .args .range)) (s .args .value)
+sizes s = range-sizes (now (s .args .range)) (s .args .value) (s .pre .0)
 
 sub-last : tie.Need-sub-last
 sub-last c = omega (arith, sizes (c .before .before))
@@ -31,41 +28,41 @@ shared-slice-read-letter : tie.Need-shared-slice-read-letter
 shared-slice-read-letter c = omega (arith, sizes (c .before .before .before))
 
 put-field-requires : tie.Need-put-field-requires
-put-field-requires c κs = omega (arith, sizes-then (c .before .before))
+put-field-requires c κs = omega (arith, sizes (c .before .before .before .before .before))
 
 sub-put-bytes : tie.Need-sub-put-bytes
-sub-put-bytes c = omega (arith, sizes-then (valued (c .before .before)))
+sub-put-bytes c = omega (arith, sizes (start (c .before .before)))
 
 part-put-bytes-start : tie.Need-part-put-bytes-start
-part-put-bytes-start c = omega (arith, sizes-then (valued (c .before .before)))
+part-put-bytes-start c = omega (arith, sizes (start (c .before .before)))
 
 sub-put-bytes-2 : tie.Need-sub-put-bytes-2
-sub-put-bytes-2 c = omega (arith, sizes-then (valued (c .before .before .before)))
+sub-put-bytes-2 c = omega (arith, sizes (start (c .before .before .before)))
 
 part-put-bytes-start-2 : tie.Need-part-put-bytes-start-2
-part-put-bytes-start-2 c = omega (arith, sizes-then (valued (c .before .before .before)))
+part-put-bytes-start-2 c = omega (arith, sizes (start (c .before .before .before)))
 
 put-bytes-requires : tie.Need-put-bytes-requires
 put-bytes-requires c κs =
     let f = c .before .before .before .before in
-    omega (arith, sizes-then (valued f), length-part (f .put-field .last .0) (f .put-field .result))
+    omega (arith, sizes (start f), length-part (f .put-field .last .0) (f .put-field .result))
 
 sub-unit : tie.Need-sub-unit
-sub-unit c = omega (arith, sizes-then (valued (first (c .before .before))))
+sub-unit c = omega (arith, sizes (start (first (c .before .before))))
 
 sub-put-numeral : tie.Need-sub-put-numeral
-sub-put-numeral c = omega (arith, sizes-then (valued (first (c .before .before))))
+sub-put-numeral c = omega (arith, sizes (start (first (c .before .before))))
 
 part-put-numeral-start : tie.Need-part-put-numeral-start
-part-put-numeral-start c = omega (arith, sizes-then (valued (first (c .before .before))))
+part-put-numeral-start c = omega (arith, sizes (start (first (c .before .before))))
 
 put-numeral-requires : tie.Need-put-numeral-requires
 put-numeral-requires c κs =
-    let f = valued (first (c .before .before .before)) in
-    simp (length-take, length-drop) (omega (arith, sizes-then f .range, sizes-then f .term))
+    let f = start (first (c .before .before .before)) in
+    simp (length-take, length-drop) (omega (arith, sizes f .range, sizes f .term))
 
 returns : tie.Need-returns
-returns c = (omega (arith, sizes-then (valued (first (second (c .before .before))))), search (needs, term-over))
+returns c = (omega (arith, sizes (start (first (second (c .before .before))))), search (needs, term-over))
 
 pub put-term-spec : {M : Type 1} → statement M
 put-term-spec =
@@ -74,7 +71,6 @@ put-term-spec =
     sub-last
     (λ c. search needs)
     shared-slice-read-letter
-    (λ c κs. search needs)
     (λ c. search needs)
     put-field-requires
     sub-put-bytes

@@ -121,6 +121,24 @@ pub fn orders(text: &str, bases: &str) -> Vec<String> {
         .collect()
 }
 
+/// The list of a record's orders, or the refusal.
+pub fn list(record: &[u8]) -> Result<Vec<u8>, (u8, u32)> {
+    watched_all(|out| model::list(record, out))
+}
+
+/// The orders of a list, each behind its length, and nothing else.
+#[track_caller]
+pub fn pieces(mut list: &[u8]) -> Vec<&[u8]> {
+    let mut pieces = Vec::new();
+    while let [14, 0, 4, a, b, c, d, rest @ ..] = list {
+        let length = u32::from_be_bytes([*a, *b, *c, *d]) as usize;
+        pieces.push(&rest[..length]);
+        list = &rest[length..];
+    }
+    assert_eq!(list, b"");
+    pieces
+}
+
 /// Expects a value, in the one place of the command `A`, to name these arguments.
 #[track_caller]
 pub fn names(value: &str, arguments: &[&str]) {
@@ -134,6 +152,7 @@ pub fn not_well_formed(record: &[u8]) {
     assert_eq!(print(record), Err((18, 0)), "{record:?}");
     assert_eq!(count(record), Err((18, 0)), "{record:?}");
     assert_eq!(order(record, 0), Err((18, 0)), "{record:?}");
+    assert_eq!(list(record), Err((18, 0)), "{record:?}");
 }
 
 /// The letters of a record's places.

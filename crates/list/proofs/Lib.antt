@@ -1,0 +1,10 @@
+pub mod OdometerLaws
+pub mod RowLaws
+pub mod MovingLaws
+pub mod PieceLaws
+pub mod TurnLaws
+pub mod BeginLaws
+pub mod UnrollLaws
+pub mod ListLaws
+pub mod SizeLaws
+pub mod AnswerLaws
