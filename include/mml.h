@@ -7,7 +7,7 @@
  *
  * A record is the same command as tagged fields, ready for a program. An order is a record in
  * which each group of arguments is reduced to one argument; the command above has three
- * orders. There are six calls:
+ * orders. There are seven calls:
  *
  *     mml_key     keeper and key         ->  keeper, and whether its line is ready
  *     mml_read    text and base letters  ->  record
@@ -15,13 +15,16 @@
  *     mml_count   record                 ->  number of orders
  *     mml_order   record and k           ->  order number k, as a record
  *     mml_list    record                 ->  all orders, each behind its length
+ *     mml_member  record, place number   ->  whether the argument stands in that place, and
+ *                 and argument               where it does first
  *
  * ANSWERS. Each call answers one 64-bit number: a refusal number times 2^32, plus a value.
  * Take it apart with MML_NUMBER and MML_VALUE.
  *
  *     number 0        the call succeeded; the value is the number of bytes written at the
  *                     start of out (mml_count: the number of orders; mml_key: 1 if the line is
- *                     ready, else 0)
+ *                     ready, else 0; mml_member: 1 + the position if the argument stands there,
+ *                     else 0)
  *     another number  the call refused; the value is the place (see the list below)
  *
  * A call that succeeds leaves the rest of out as it was. A call that refuses changes no byte:
@@ -142,6 +145,23 @@
  *
  * The field length stands in lists alone: a list is no record, and a record with this field is
  * not well formed. examples/c/list.c walks a list.
+ *
+ * MEMBERS. mml_member tells whether an argument stands in a place: before a mass change, whether
+ * amplifier 7-117 is touched. Places are counted from 0, through all blocks, omitted ones
+ * included. The argument is given as a record has it, by its 1 to 4 unit fields, one behind the
+ * other, without the field of the element. Those of 7-117 are these 18 bytes:
+ *
+ *     7, 0, 6,  'D', 0,  0, 0, 0, 7
+ *     7, 0, 6,  'D', 0,  0, 0, 0, 117
+ *
+ * Arguments are equal when their unit fields are: 3.50 is not 3.5, H'7 is not 7, and an argument
+ * with another number of units is none of the place's. The position counts from 0 the arguments
+ * of the place, all written out, each range from its lower end on: in 7-1&&-3&-100&&-120 it is
+ * 20 for 7-117. Where the argument stands more than once it is the first.
+ *
+ * Of an argument as it is typed, mml_read makes the unit fields: in the record of A:7-117; read
+ * with the base letter of the place, they stand behind the field single element, from byte 22 on.
+ * examples/c/member.c asks so.
  */
 
 #ifndef MML_H
@@ -155,9 +175,9 @@ extern "C" {
 #endif
 
 /* The version of the interface. */
-#define MML_VERSION "2.1"
+#define MML_VERSION "2.2"
 #define MML_VERSION_MAJOR 2
-#define MML_VERSION_MINOR 1
+#define MML_VERSION_MINOR 2
 
 /* The longest text that is read or printed, and the longest line that is kept, in bytes. */
 #define MML_TEXT_MAX 1024u
@@ -173,8 +193,8 @@ extern "C" {
 #define MML_KEY_CAN 24u
 
 /* MML_NUMBER, the number of an answer: 0 for success, else the refusal.
-   MML_VALUE, the value of an answer: bytes written, number of orders, 1 for a ready line, or the
-   place of the refusal. The answer is a uint64_t. */
+   MML_VALUE, the value of an answer: bytes written, number of orders, 1 for a ready line, 1 + the
+   position of an argument, or the place of the refusal. The answer is a uint64_t. */
 #ifdef __cplusplus
 #define MML_NUMBER(answer) (static_cast<unsigned>((answer) >> 32))
 #define MML_VALUE(answer) (static_cast<uint32_t>((answer) & 0xFFFFFFFFu))
@@ -188,7 +208,7 @@ extern "C" {
  *
  *    mml_read answers the first of 1 to 17 and 21 that applies, 21 between 10 and 11;
  *    mml_print 18, 2 or 17, mml_order 18, 19 or 17, mml_count 18, mml_list 18 or 17,
- *    mml_key 20.
+ *    mml_member 18, 26 or 27, mml_key 20.
  */
 enum {
     MML_DONE = 0,
@@ -262,7 +282,14 @@ enum {
 
     /* The name stands already in its block, all pieces equal byte for byte; in another block it
        may stand again. Place: the second name's first token. */
-    MML_NAME_TWICE = 21
+    MML_NAME_TWICE = 21,
+
+    /* The record has no such place, or the place is omitted. Place: the number asked for. */
+    MML_NO_PLACE = 26,
+
+    /* The argument is not 1 to 4 unit fields that could stand under the base of its place.
+       Place: 0. */
+    MML_ARGUMENT = 27
 };
 
 /* The tags of a record's fields; RECORDS above says what they hold. */
@@ -343,6 +370,16 @@ uint64_t mml_count(const uint8_t *record, size_t record_len);
  */
 uint64_t mml_list(const uint8_t *record, size_t record_len,
                   uint8_t *out, size_t out_len);
+
+/*
+ * Tells whether an argument stands in a place of a record, and where it does first; MEMBERS above
+ * says how both are given. The value is 0 for no, and 1 + the position, up to 4,096, for yes.
+ * Refuses a record that is not well formed with 18, then a place that the record lacks or that is
+ * omitted with 26, then an argument that could not stand there with 27. Writes nothing.
+ * The cost does not depend on how many arguments a range names.
+ */
+uint64_t mml_member(const uint8_t *record, size_t record_len, uint32_t place,
+                    const uint8_t *argument, size_t argument_len);
 
 #ifdef __cplusplus
 }

@@ -15,6 +15,9 @@ static const unsigned refusals[] = {
     MML_BUFFER_TOO_SHORT, MML_RECORD, MML_NO_ORDER, MML_NO_KEY, MML_NAME_TWICE
 };
 
+/* The refusals from 26 on. */
+static const unsigned later_refusals[] = { MML_NO_PLACE, MML_ARGUMENT };
+
 static const unsigned tags[] = {
     0, MML_TAG_CODE_PIECE, MML_TAG_BLOCK, MML_TAG_PLACE, MML_TAG_NAME_PIECE, MML_TAG_SINGLE, MML_TAG_RANGE, MML_TAG_NUMERAL,
     MML_TAG_KEYED, MML_TAG_IDENTIFIER, MML_TAG_SYMBOLIC_NAME, MML_TAG_STRING, MML_TAG_ORDERS
@@ -22,13 +25,13 @@ static const unsigned tags[] = {
 
 static const unsigned length_tag = MML_TAG_LENGTH;
 
-/* Is each of the numbers its own index? */
-static int count_up(const unsigned *numbers, size_t n)
+/* Do the numbers count up from the first? */
+static int count_up(unsigned first, const unsigned *numbers, size_t n)
 {
     size_t i;
 
     for (i = 0; i < n; i++)
-        if (numbers[i] != i)
+        if (numbers[i] != first + i)
             return 0;
     return 1;
 }
@@ -67,12 +70,14 @@ static int linked(void)
 {
     return MML_NUMBER(mml_read(NULL, 0, NULL, 0, NULL, 0)) == MML_NO_END && MML_NUMBER(mml_print(NULL, 0, NULL, 0)) == MML_RECORD
            && MML_NUMBER(mml_order(NULL, 0, 0, NULL, 0)) == MML_RECORD && MML_NUMBER(mml_count(NULL, 0)) == MML_RECORD
-           && MML_NUMBER(mml_list(NULL, 0, NULL, 0)) == MML_RECORD;
+           && MML_NUMBER(mml_list(NULL, 0, NULL, 0)) == MML_RECORD && MML_NUMBER(mml_member(NULL, 0, 0, NULL, 0)) == MML_RECORD;
 }
 
 int main(void)
 {
-    if (!count_up(refusals, sizeof refusals / sizeof refusals[0]) || !count_up(tags, sizeof tags / sizeof tags[0]) || length_tag != 14)
+    if (!count_up(0, refusals, sizeof refusals / sizeof refusals[0])
+        || !count_up(26, later_refusals, sizeof later_refusals / sizeof later_refusals[0])
+        || !count_up(0, tags, sizeof tags / sizeof tags[0]) || length_tag != 14)
         return 1;
     if (version[0] - '0' != MML_VERSION_MAJOR || version[1] != '.' || version[2] - '0' != MML_VERSION_MINOR || version[3] != 0)
         return 2;

@@ -47,6 +47,17 @@ static const struct {
     { "A:0&&4096;", "" },
 };
 
+/* Arguments that are asked for in the first place of a record: none, a number, the number cut short, and 7-2. */
+static const struct {
+    const char *units;
+    size_t len;
+} arguments[] = {
+    { "", 0 },
+    { "\7\0\6D\0\0\0\0\5", 9 },
+    { "\7\0\6D\0\0\0\0\5", 8 },
+    { "\7\0\6D\0\0\0\0\7\7\0\6D\0\0\0\0\2", 18 },
+};
+
 /* Keepers: how their line begins, the last of their bytes, and their count; their other bytes are the filling. */
 static const struct {
     const char *start;
@@ -142,11 +153,17 @@ static void see_the_watch(void)
 
 /* A call: what it is, and its inputs. */
 struct call {
-    enum { READ, PRINT, ORDER, COUNT, LIST } kind;
+    enum { READ, PRINT, ORDER, LIST, COUNT, MEMBER } kind;
     const uint8_t *first, *second;
     size_t first_len, second_len;
     uint64_t k;
 };
+
+/* Does the call write? */
+static int writes(const struct call *call)
+{
+    return call->kind < COUNT;
+}
 
 /* Makes the call with inputs and buffer from these places. */
 static uint64_t made(const struct call *call, const uint8_t *first, const uint8_t *second, uint8_t *out, size_t room)
@@ -161,6 +178,8 @@ static uint64_t made(const struct call *call, const uint8_t *first, const uint8_
         return mml_order(first, call->first_len, call->k, out, room);
     case LIST:
         return mml_list(first, call->first_len, out, room);
+    case MEMBER:
+        return mml_member(first, call->first_len, (uint32_t)call->k, second, call->second_len);
     default:
         return mml_count(first, call->first_len);
     }
@@ -191,8 +210,8 @@ static void try_room(const struct call *call, size_t room)
 
     memcpy(plain, filling, sizeof plain);
     expected = made(call, call->first, call->second, plain, room);
-    written = MML_NUMBER(expected) == MML_DONE && call->kind != COUNT ? MML_VALUE(expected) : 0;
-    if (MML_NUMBER(expected) > MML_NO_ORDER || written > room)
+    written = MML_NUMBER(expected) == MML_DONE && writes(call) ? MML_VALUE(expected) : 0;
+    if (MML_NUMBER(expected) > (call->kind == MEMBER ? MML_ARGUMENT : MML_NO_ORDER) || written > room)
         fail("an answer is none");
     if (memcmp(plain + written, filling + written, sizeof plain - written) != 0)
         fail("bytes past the answer are written");
@@ -207,7 +226,7 @@ static uint64_t try_call(struct call call)
     uint64_t answer = made(&call, call.first, call.second, plain, sizeof plain);
     size_t needed = MML_NUMBER(answer) == MML_DONE ? MML_VALUE(answer) : SPARE;
 
-    if (call.kind == COUNT)
+    if (!writes(&call))
         needed = 0;
     try_room(&call, needed + SPARE);
     try_room(&call, needed);
@@ -224,6 +243,8 @@ static void try_record(const uint8_t *bytes, size_t len)
 
     try_call((struct call){ PRINT, bytes, NULL, len, 0, 0 });
     try_call((struct call){ LIST, bytes, NULL, len, 0, 0 });
+    for (size_t i = 0; i < sizeof arguments / sizeof arguments[0]; i++)
+        try_call((struct call){ MEMBER, bytes, (const uint8_t *)arguments[i].units, len, arguments[i].len, 0 });
     try_call((struct call){ ORDER, bytes, NULL, len, 0, 0 });
     if (MML_NUMBER(count) != MML_DONE)
         return;
@@ -319,6 +340,9 @@ static void try_null(void)
     is(mml_list(NULL, 0, out, sizeof out), MML_RECORD, 0);
     is(mml_list(one, sizeof one, NULL, 0), MML_BUFFER_TOO_SHORT, LENGTH_LEN + sizeof one);
     is(mml_list(NULL, 0, NULL, 0), MML_RECORD, 0);
+    is(mml_member(NULL, 0, 0, bases, 1), MML_RECORD, 0);
+    is(mml_member(one, sizeof one, 0, NULL, 0), MML_NO_PLACE, 0);
+    is(mml_member(NULL, 0, 0, NULL, 0), MML_RECORD, 0);
 }
 
 int main(void)

@@ -1,10 +1,10 @@
 /*
  * serve - runs the library's calls for another program, which may be built for another processor.
  *
- * A request on standard input: the call (1 byte: 0 read, 1 print, 2 order, 3 count, 4 key, 5 list), k (8 bytes), the lengths of the
- * first input, the second input and the buffer (4 bytes each), all low byte first, then the three contents. The reply on standard
+ * A request on standard input: the call (1 byte: 0 read, 1 print, 2 order, 3 count, 4 key, 5 list, 6 member), k (8 bytes), the lengths
+ * of the first input, the second input and the buffer (4 bytes each), all low byte first, then the three contents. The reply on standard
  * output: the answer (8 bytes, low byte first), whether a byte beside the buffer or of an input was written (1 byte), and the buffer. Of
- * the call key the buffer is the keeper, byte for byte, and k the key.
+ * the call key the buffer is the keeper, byte for byte, and k the key; of member k is the place, and the second input the argument.
  *
  * From call to call the three are lent at other positions (lent.h), a keeper at those where it may stand. A touch of a page without
  * access ends the program.
@@ -13,7 +13,7 @@
 
 #include "mml.h"
 
-enum { READ, PRINT, ORDER, COUNT, KEY, LIST };
+enum { READ, PRINT, ORDER, COUNT, KEY, LIST, MEMBER };
 enum { FIRST, SECOND, OUT, BUFFERS };
 enum { AT_K = 1, K_SIZE = 8, AT_LENGTHS = 9, LENGTH_SIZE = 4, HEAD_SIZE = 21 };
 enum { ANSWER_SIZE = 8 };
@@ -83,6 +83,10 @@ static uint64_t answer(int call, uint64_t k, const struct lent lent[BUFFERS])
         return mml_key((mml_keeper *)out->bytes, (uint8_t)k);
     case LIST:
         return mml_list(first->bytes, first->len, out->bytes, out->len);
+    case MEMBER:
+        if (k > UINT32_MAX)
+            stop("the place is no number of 32 bits");
+        return mml_member(first->bytes, first->len, (uint32_t)k, second->bytes, second->len);
     default:
         stop("there is no such call");
         return 0;

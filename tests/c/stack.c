@@ -2,8 +2,8 @@
  * stack - the bytes of stack that each call takes; more than its bound is a failure.
  *
  * Each call runs on a stack of its own that is painted before; what is no longer painted was used. A command is read as it is, and
- * with spaces to the longest text, since longer texts are read through longer tables. Keys are taken to lines of all lengths and
- * ends, also where they are refused.
+ * with spaces to the longest text, since longer texts are read through longer tables. Of its first place arguments of 1 to 4 units are
+ * asked for. Keys are taken to lines of all lengths and ends, also where they are refused.
  */
 #define _XOPEN_SOURCE 700
 #include <stdio.h>
@@ -14,7 +14,7 @@
 #include "mml.h"
 
 enum { ROOM = 1 << 18, PAINT = 0x5C, KIBIBYTE = 1024, LIST_ROOM = 1 << 22 };
-enum { READ, PRINT, ORDER, COUNT, LIST, KEY, CALLS };
+enum { READ, PRINT, ORDER, COUNT, LIST, MEMBER, KEY, CALLS };
 
 /* Each call, and the bytes of stack that it may take: the reader has its tables of tokens there, a key copies of its keeper, a list two
    rows of 96 numbers, the others one at most. */
@@ -27,6 +27,7 @@ static const struct {
     [ORDER] = { "order", KIBIBYTE },
     [COUNT] = { "count", KIBIBYTE },
     [LIST] = { "list", 3 * KIBIBYTE / 2 },
+    [MEMBER] = { "member", KIBIBYTE },
     [KEY] = { "key", 3 * KIBIBYTE },
 };
 
@@ -39,6 +40,13 @@ static const char *const commands[] = {
     ",B'0&&B'11111111111111111111111111111111++B'111111111111111111111111111111;",
     "A:PORT=1,PART=2,N-1=3,N-01=4,OWNER-1=5,OTNER-1=6;",
 };
+
+/* The argument that is asked for, as unit fields, and the bytes of one of them. */
+static const uint8_t argument[] = {
+    MML_TAG_NUMERAL, 0, 6, 'D', 0, 0, 0, 0, 7, MML_TAG_NUMERAL, 0, 6, 'D', 0, 0, 0, 0, 2,
+    MML_TAG_NUMERAL, 0, 6, 'D', 0, 0, 0, 0, 1, MML_TAG_NUMERAL, 0, 6, 'D', 0, 0, 0, 0, 1,
+};
+enum { UNIT_LEN = sizeof argument / 4 };
 
 /* Lines that keys are taken to: so many bytes, all of them the same but the last, and the number that a key is answered which is to be
    held, and one which removes. */
@@ -66,7 +74,7 @@ static uint8_t text[MML_TEXT_MAX];
 static uint8_t record[MML_RECORD_MAX];
 static uint8_t out[MML_RECORD_MAX];
 static uint8_t list[LIST_ROOM];
-static size_t text_len, record_len;
+static size_t text_len, record_len, argument_len;
 static uint64_t k, answer;
 static mml_keeper keeper;
 static uint8_t key;
@@ -100,6 +108,9 @@ static void run(void)
         break;
     case LIST:
         answer = mml_list(record, record_len, list, sizeof list);
+        break;
+    case MEMBER:
+        answer = mml_member(record, record_len, 0, argument, argument_len);
         break;
     case KEY:
         answer = mml_key(&keeper, key);
@@ -157,6 +168,9 @@ static void measure_command(size_t most[CALLS])
 {
     for (call = READ; call <= LIST; call++)
         measure(most, MML_DONE);
+    call = MEMBER;
+    for (argument_len = UNIT_LEN; argument_len <= sizeof argument; argument_len += UNIT_LEN)
+        measure(most, MML_DONE);
 }
 
 /* Takes these keys, each to the same line. */
@@ -191,7 +205,7 @@ int main(void)
         measure_keys(most, i, removing_keys, sizeof removing_keys, lines[i].removes);
     }
     for (call = 0; call < CALLS; call++) {
-        printf("%-5s %5zu bytes of stack, %5zu allowed\n", calls[call].name, most[call], calls[call].allowed);
+        printf("%-6s %5zu bytes of stack, %5zu allowed\n", calls[call].name, most[call], calls[call].allowed);
         if (calls[call].allowed < most[call]) {
             fprintf(stderr, "stack: %s takes more than %zu bytes\n", calls[call].name, calls[call].allowed);
             failed = 1;

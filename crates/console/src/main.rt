@@ -1,19 +1,21 @@
 // The program behind `./mml`. Each line of standard input is a command or, for some verbs, a record
 // in hexadecimal; module `verbs` says what is done with it. Of `keys` each byte is a key; module
-// `keys` makes lines of them. It is started with four words that the script has judged, MANNER VERB
-// K BASES; crate `console_words` takes them:
+// `keys` makes lines of them. It is started with five words that the script has judged, MANNER VERB
+// K BASES ARGUMENT; crate `console_words` takes them:
 //
-//     MANNER  alone  nothing is told at the end
-//             told   at the end one digit goes to descriptor 3, where the script reads it
-//             typed  the same, and a prompt stands on standard error before each line; of `keys`
-//                    the bytes are those of a terminal on which each key acts at once
-//     VERB    check, record, orders, list, order, keys, text or bases
-//     K       the order that `order` asks for; of `keys` the columns of the terminal; the other
-//             verbs do not use it
-//     BASES   the base letters, perhaps none
+//     MANNER    alone  nothing is told at the end
+//               told   at the end one digit goes to descriptor 3, where the script reads it
+//               typed  the same, and a prompt stands on standard error before each line; of `keys`
+//                      the bytes are those of a terminal on which each key acts at once
+//     VERB      check, record, orders, list, order, has, keys, text or bases
+//     K         the order that `order` asks for; of `has` the place; of `keys` the columns of the
+//               terminal; the other verbs do not use it
+//     BASES     the base letters, perhaps none
+//     ARGUMENT  what `has` asks for; the other verbs do not use it
 //
 // The digit is the script's status: 0 every line was served, 1 at least one was refused, 2 the words
 // are wrong, 3 input or output failed. No Rattle program ends with a status of its own.
+mod has;
 mod keys;
 mod verbs;
 

@@ -58,6 +58,7 @@ fn serve_accepted(
         Verb::Orders => write_orders(record),
         Verb::List => write_list(bases, line, record, room),
         Verb::Order(k) => write_order(bases, line, record, k),
+        Verb::Has(place) => crate::has::serve(bases, line, record, place),
         _ => console_replies::write_record(record),
     }
 }

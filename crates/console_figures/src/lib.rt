@@ -1,9 +1,17 @@
 // What the programs over the library take from bytes: numbers and bytes that a text writes in digits, the first bytes of a buffer, a
-// record's own base letters, and the first order of a list.
+// record's own base letters, the first order of a list, and an argument that is asked for.
+mod asked;
 mod letters;
 mod numbers;
 mod pieces;
 
+pub use asked::BEFORE;
+pub use asked::BEHIND;
+pub use asked::Member;
+pub use asked::argument_fields;
+pub use asked::argument_text;
+pub use asked::found;
+pub use asked::put_asked;
 pub use letters::own_bases;
 pub use numbers::Decoded;
 pub use numbers::Number;

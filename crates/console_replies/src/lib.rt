@@ -105,6 +105,34 @@ pub fn write_order(k: u64, text: &[u8]) -> Outcome {
     )
 }
 
+// Writes that an argument is among those of a place, and its position.
+pub fn write_found(argument: &[u8], position: u32, place: u32) -> Outcome {
+    served(
+        io::write_all(STDOUT_FILENO, b"yes: ")
+            && io::write_all(STDOUT_FILENO, argument)
+            && io::write_all(STDOUT_FILENO, b" is argument ")
+            && io::print_decimal(STDOUT_FILENO, position as u64)
+            && write_place(place),
+    )
+}
+
+// Writes that an argument is not among those of a place.
+pub fn write_absent(argument: &[u8], place: u32) -> Outcome {
+    served(
+        io::write_all(STDOUT_FILENO, b"no: ")
+            && io::write_all(STDOUT_FILENO, argument)
+            && io::write_all(STDOUT_FILENO, b" is not among the arguments")
+            && write_place(place),
+    )
+}
+
+// Writes of which place that was said.
+fn write_place(place: u32) -> bool {
+    io::write_all(STDOUT_FILENO, b" of place ")
+        && io::print_decimal(STDOUT_FILENO, place as u64)
+        && io::write_all(STDOUT_FILENO, b", counted from 0\n")
+}
+
 // Shows the refusal of a line: of `check` it is a result, and of any other verb an error.
 pub fn refuse(check: bool, bases: &[u8], line: &[u8], number: u8, place: u32) -> Outcome {
     if check {
@@ -116,6 +144,11 @@ pub fn refuse(check: bool, bases: &[u8], line: &[u8], number: u8, place: u32) ->
 // Shows the refusal of a record that a line gives in hexadecimal.
 pub fn refuse_record(line: &[u8], number: u8, place: u32) -> Outcome {
     refused(console_sentences::show_record(STDERR_FILENO, line, number, place))
+}
+
+// Shows the refusal of an argument that is asked for of a place: by the reader or by the library, in the command that holds it alone.
+pub fn refuse_argument(bases: &[u8], text: &[u8], number: u8, at: u32, place: u32) -> Outcome {
+    refused(console_sentences::show_argument(STDERR_FILENO, text, bases, number, at, place))
 }
 
 // Says which refusal an order of a record met.

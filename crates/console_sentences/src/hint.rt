@@ -4,8 +4,8 @@ ghost use lib.ListN.{length};
 use hint_phrases::Hint;
 use scan::Filled;
 
-// Keys of the catalogue's phrases: of a command and of a record that is too long (2), of a list (17), of a record (18), of a key (20), and
-// of a name (21).
+// Keys of the catalogue's phrases: of a command and of a record that is too long (2), of a list (17), of a record (18), of a key (20), of a
+// name (21), and of an argument (27) that is too long, has a semicolon, or is not one alone.
 const SHORTER: u8 = b's';
 
 const LONG_RECORD: u8 = b'r';
@@ -17,6 +17,12 @@ const RECORD: u8 = b'r';
 const KEYS: u8 = b'k';
 
 const ONCE: u8 = b'o';
+
+const LONG_ARGUMENT: u8 = b'l';
+
+const SEMICOLON: u8 = b';';
+
+const ALONE: u8 = b'1';
 
 // Writes what is told of a line.
 pub fn write_line_hint(fd: i32, line: &[u8], bases: &[u8], number: u8, place: u32) -> bool {
@@ -36,7 +42,7 @@ pub fn write_line_hint(fd: i32, line: &[u8], bases: &[u8], number: u8, place: u3
 
 // Is a refusal told from the tokens?
 fn is_scanned(number: u8) -> bool {
-    rules::NO_END <= number && number <= rules::TOO_MANY_ORDERS
+    rules::NO_END <= number && number <= rules::TOO_MANY_ORDERS || number == rules::NO_SUCH_PLACE
 }
 
 // What is told of a line without its tokens.
@@ -54,6 +60,53 @@ fn text_hint(line: &[u8], bases: &[u8], number: u8, place: usize) -> Hint {
         rules::NAME_TWICE => hint_phrases::plain(ONCE),
         _ => hint_phrases::plain(hint_phrases::UNKNOWN),
     }
+}
+
+// Writes what is told of an argument that is asked for of a place: what its command, which was refused so, tells of it.
+pub fn write_argument_hint(
+    fd: i32,
+    text: &[u8],
+    bases: &[u8],
+    number: u8,
+    place: u32,
+    asked: usize,
+) -> bool {
+    let key = argument_key(number);
+    if key != hint_phrases::NONE {
+        return hint_phrases::write_hint(
+            fd,
+            b"",
+            b"",
+            rules::WRONG_ARGUMENT,
+            hint_phrases::plain(key),
+        );
+    }
+    if number == rules::UNREADABLE {
+        if text.len() <= rules::MOST_TEXT {
+            return write_misfit(fd, text, bases, place, asked);
+        }
+    }
+    write_line_hint(fd, text, bases, number, place)
+}
+
+// What is told of an argument where its command's own refusal would speak of what nobody has typed.
+fn argument_key(number: u8) -> u8 {
+    match number {
+        rules::TOO_LONG => LONG_ARGUMENT,
+        rules::AFTER_END => SEMICOLON,
+        rules::WRONG_ARGUMENT => ALONE,
+        _ => hint_phrases::NONE,
+    }
+}
+
+// Writes why a word is no unit under the base of the place that is asked for, which is called by its number.
+fn write_misfit(fd: i32, text: &[u8], bases: &[u8], place: u32, asked: usize) -> bool
+    requires { ⌜ length (now text) ≤ 1024 ⌝ }
+{
+    let mut contents = [0u8; rules::MOST_TEXT];
+    let mut hint = scanned_hint(text, bases, rules::UNREADABLE, place, &mut contents);
+    hint.one = asked;
+    hint_phrases::write_hint(fd, text, &contents, rules::UNREADABLE, hint)
 }
 
 // Writes what is told of a record.
@@ -80,15 +133,23 @@ fn record_key(number: u8) -> u8 {
 fn write_scanned(fd: i32, line: &[u8], bases: &[u8], number: u8, place: u32) -> bool
     requires { ⌜ length (now line) ≤ 1024 ⌝ }
 {
+    let mut contents = [0u8; rules::MOST_TEXT];
+    let hint = scanned_hint(line, bases, number, place, &mut contents);
+    hint_phrases::write_hint(fd, line, &contents, number, hint)
+}
+
+// What the tokens tell of a line, and their contents.
+fn scanned_hint(line: &[u8], bases: &[u8], number: u8, place: u32, contents: &mut [u8]) -> Hint
+    requires { ⌜ (length (now line) ≤ 1024) × (length (now line) ≤ length (now contents)) ⌝ }
+{
     let classes = chars::table();
     let mut toks = [0u64; rules::MOST_TEXT];
-    let mut contents = [0u8; rules::MOST_TEXT];
-    let hint = match scan::tokens(line, &classes, &mut toks, &mut contents) {
+    match scan::tokens(line, &classes, &mut toks, contents) {
         Filled::Done { tokens, bytes } => token_hint(
             line,
             bases,
             front(&toks, tokens),
-            &contents,
+            contents,
             number,
             place,
         ),
@@ -96,8 +157,7 @@ fn write_scanned(fd: i32, line: &[u8], bases: &[u8], number: u8, place: u32) -> 
             no: found,
             place: at,
         } => long_hint(scan::byte(line, at), found),
-    };
-    hint_phrases::write_hint(fd, line, &contents, number, hint)
+    }
 }
 
 // The first n tokens, or all where there are fewer.
@@ -133,8 +193,14 @@ fn token_hint(
         rules::KIND_DIFFERS => hint_shape::why_kind(line, bases, toks, contents, t),
         rules::WRONG_NAME => hint_phrases::plain(hint_shape::why_name(toks, t)),
         rules::WRONG_SHAPE => hint_shape::why_value(toks, t),
+        rules::NO_SUCH_PLACE => hint_text::which_places(place as usize, places(toks)),
         _ => unit_hint(bases, toks, contents, number, t),
     }
+}
+
+// How many places the tokens of a command have.
+fn places(toks: &[u64]) -> usize {
+    hint_around::place_number(toks, toks.len())
 }
 
 // What is told of the t-th token: of what a value says.

@@ -22,6 +22,38 @@ pub fn show(fd: i32, line: &[u8], bases: &[u8], number: u8, place: u32) -> bool 
     false
 }
 
+// Shows a refusal of an argument that is asked for of the place with the number `asked`: `text` is the command that holds it alone, and
+// number and place are those with which that command, or its argument, was refused.
+pub fn show_argument(
+    fd: i32,
+    text: &[u8],
+    bases: &[u8],
+    number: u8,
+    place: u32,
+    asked: u32,
+) -> bool {
+    if point(
+        fd,
+        console_figures::argument_text(text),
+        in_argument(place as usize),
+    ) {
+        if write_refusal(fd, rules::WRONG_ARGUMENT, 0) {
+            if hint::write_argument_hint(fd, text, bases, number, place, asked as usize) {
+                return io::write_all(fd, b"\n");
+            }
+        }
+    }
+    false
+}
+
+// Where in the argument a place of its command lies.
+fn in_argument(place: usize) -> usize {
+    if console_figures::BEFORE <= place {
+        return place - console_figures::BEFORE;
+    }
+    0
+}
+
 // Shows a refusal of a record that the line gives in hexadecimal: no place in it is a byte's.
 pub fn show_record(fd: i32, line: &[u8], number: u8, place: u32) -> bool {
     if console_window::write_line(fd, line) {

@@ -1,10 +1,10 @@
-// The words that the console is started with, MANNER VERB K BASES, and how it tells who started it what came of them.
+// The words that the console is started with, MANNER VERB K BASES ARGUMENT, and how it tells who started it what came of them.
 use console_figures::Number;
 use libc::ENAMETOOLONG;
 use libc::STDERR_FILENO;
 
 // How many words there are, the program's own name among them.
-const COUNT: usize = 5;
+const COUNT: usize = 6;
 // Which of them each is.
 const MANNER: usize = 1;
 
@@ -13,10 +13,15 @@ const VERB: usize = 2;
 const K: usize = 3;
 
 const BASES: usize = 4;
+
+const ARGUMENT: usize = 5;
 // Room for the longest word that stands for a manner or a verb, and for the largest K.
 const LONGEST_WORD: usize = 6;
 
 const LONGEST_K: usize = 20;
+
+// The largest K that is a place.
+const LARGEST_PLACE: u64 = 4294967295;
 
 // The descriptor where the script reads a digit.
 const SCRIPT: i32 = 3;
@@ -36,6 +41,7 @@ pub enum Verb {
     Orders,
     List,
     Order(u64),
+    Has(u32),
     Text,
     Bases,
 }
@@ -115,10 +121,21 @@ fn command_verb(word: &[u8], k: u64) -> Asked {
     if is(word, b"order") {
         return Asked::Commands(Verb::Order(k));
     }
+    if is(word, b"has") {
+        return has(k);
+    }
     if is(word, b"keys") {
         return Asked::Keys(k);
     }
     record_verb(word)
+}
+
+// What `has` asks, of place k.
+fn has(k: u64) -> Asked {
+    if LARGEST_PLACE < k {
+        return complain();
+    }
+    Asked::Commands(Verb::Has(k as u32))
 }
 
 // What a verb on records asks.
@@ -148,9 +165,19 @@ fn complain() -> Asked {
 
 // Puts the base letters into `letters`, and answers how many: of a longer list as many as fit.
 pub fn bases(letters: &mut [u8]) -> usize {
-    let n = os::arg(BASES, letters);
+    front_of(BASES, letters)
+}
+
+// Puts the argument that `has` asks for into `argument`, and answers how many bytes: of a longer one as many as fit.
+pub fn argument(argument: &mut [u8]) -> usize {
+    front_of(ARGUMENT, argument)
+}
+
+// Puts a word, or as much of it as fits, into `room`, and answers how many bytes.
+fn front_of(i: usize, room: &mut [u8]) -> usize {
+    let n = os::arg(i, room);
     if os::errno() == ENAMETOOLONG {
-        return letters.len();
+        return room.len();
     }
     n
 }

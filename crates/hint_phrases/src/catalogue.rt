@@ -152,6 +152,15 @@ pub fn write_phrase(
 20 k BS removes the last byte, and CAN empties the line
 21 . this name already stands in its block
 21 o a block has each name once: join the arguments by &, as in LEV=3&4, or leave one out
+26 . there is no such place, or it is omitted
+26 0 the command has no places
+26 1 there is 1 place, number 0
+26 n there are $n places, 0 to $m
+26 o place $n, counted from 0, is omitted: it has no arguments
+27 . the argument is not 1 to 4 units that could stand there
+27 1 one argument alone is asked for, as 7-117: no name, group, range or second place
+27 ; the argument is asked for without a ;
+27 l an argument has at most 1,021 bytes
 00 - nothing more can be told of it
 ",
             number,

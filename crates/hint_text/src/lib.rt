@@ -1,5 +1,5 @@
 // What can be told of a base letter (1), of bytes (3, 5), of what is not closed (4), of a missing semicolon (6), of a word or string that is
-// too long (15), and of an order that is not there (19): from the text and the place alone.
+// too long (15), and of an order (19) or a place (26) that is not there: from the text and the place alone.
 use hint_phrases::Hint;
 
 // The first byte outside ASCII.
@@ -40,10 +40,14 @@ const INSIDE: u8 = b's';
 
 const AT_END: u8 = b'e';
 
-// of orders (19).
+// of orders (19) and of places (26).
 const COUNTED: u8 = b'n';
 
-const ONE_ORDER: u8 = b'1';
+const ONE: u8 = b'1';
+
+const NO_PLACES: u8 = b'0';
+
+const OMITTED: u8 = b'o';
 
 // Why the letter at a place is no base.
 pub fn why_base(bases: &[u8], place: usize) -> Hint {
@@ -128,11 +132,24 @@ pub fn where_end(line: &[u8], tokens: usize) -> u8 {
 
 // Which orders there are, of so many.
 pub fn which_orders(count: usize) -> Hint {
-    let mut hint = hint_phrases::plain(ONE_ORDER);
+    let mut hint = hint_phrases::plain(ONE);
     if 1 < count {
         hint.key = COUNTED;
         hint.one = count;
         hint.two = count - 1;
+    }
+    hint
+}
+
+// Which places there are, of so many; of one of them, that it is omitted.
+pub fn which_places(place: usize, count: usize) -> Hint {
+    let mut hint = which_orders(count);
+    if count == 0 {
+        hint.key = NO_PLACES;
+    }
+    if place < count {
+        hint.key = OMITTED;
+        hint.one = place;
     }
     hint
 }

@@ -9,7 +9,7 @@ use borrow.Author.Tests.{eqb-true, eq-eqb, le-leb}
 use lib.Dec.{leb, eqb}
 use lib.ListN.{length, getD, length-append}
 use Rattle.laws.specs.Cases.{byBool, none≢some, cond-some, and-l, and-r}
-use Rattle.laws.specs.Lists.{all, isNil, all-append}
+use Rattle.laws.specs.Lists.{all, isNil, all-append, all-front, all-last}
 use Rattle.rules.specs.Units.{Radix, Base, plain, Unit, num, keyed, identifier, symbolic, text, allowed}
 use Rattle.rules.specs.Commands.{Element, single, range, leading}
 use Rattle.rules.specs.Records.{Field, field, isUnit, isElement, fourBytes, unitField, elementFields, fieldBytes, bytesOf, num4, Ends, ends, empty, consEnds, lastSplit, singleOf, rangeOf, elementOf}
@@ -76,14 +76,6 @@ split-back (i ∷ is) l u h = go (λ m v q. split-back is m v q) (lastSplit is) 
         let el : [] ≡ l = cc in
         let eu : i ≡ u = cc in
         rw (← el, ← eu, split-nil is q)
-
-all-front : (f : Unit → Bool) (l : List Unit) (u : Unit) → all f (l ++ (u ∷ [])) ≡ true → all f l ≡ true
-all-front f [] u h = refl
-all-front f (i ∷ l) u h = rw (and-l (f i) (all f (l ++ (u ∷ []))) h) (all-front f l u (and-r (f i) (all f (l ++ (u ∷ []))) h))
-
-all-last : (f : Unit → Bool) (l : List Unit) (u : Unit) → all f (l ++ (u ∷ [])) ≡ true → f u ≡ true
-all-last f [] u h = and-l (f u) true h
-all-last f (i ∷ l) u h = all-last f l u (and-r (f i) (all f (l ++ (u ∷ []))) h)
 
 -- ---- what was read is written again
 

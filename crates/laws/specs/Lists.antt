@@ -46,6 +46,15 @@ pub all-append : {A : Type 0} (f : A → Bool) (xs ys : List A) → all f xs ≡
 all-append f [] ys h k = k
 all-append f (x ∷ xs) ys h k = byBool (f x) (λ y. rw y (all-append f xs ys (rw y at h) k)) (λ y. absurd (false≢true (rw y at h)))
 
+-- of a list with a last member: those before it, and that one
+pub all-front : {A : Type 0} (f : A → Bool) (xs : List A) (x : A) → all f (xs ++ (x ∷ [])) ≡ true → all f xs ≡ true
+all-front f [] x h = refl
+all-front f (y ∷ ys) x h = rw (and-l (f y) (all f (ys ++ (x ∷ []))) h) (all-front f ys x (and-r (f y) (all f (ys ++ (x ∷ []))) h))
+
+pub all-last : {A : Type 0} (f : A → Bool) (xs : List A) (x : A) → all f (xs ++ (x ∷ [])) ≡ true → f x ≡ true
+all-last f [] x h = and-l (f x) true h
+all-last f (y ∷ ys) x h = all-last f ys x (and-r (f y) (all f (ys ++ (x ∷ []))) h)
+
 pub all-concat : {A : Type 0} (f : A → Bool) (xss : List (List A)) → all (all f) xss ≡ true → all f (concat xss) ≡ true
 all-concat f [] h = refl
 all-concat f (xs ∷ xss) h =

@@ -7,7 +7,8 @@ use native.Mathlib.Omega.{arith}
 use lib.ListN.{length, getD, take, drop, length-append, length-take, drop-of-length-le}
 use lib.Seq.{drop-at, drop-drop, length-take-le}
 use Rattle.laws.specs.Over.{part, back as given, part-from, length-part}
-use Rattle.list_argument.specs.Standings.{Value, Stands}
+use Rattle.record_walk.specs.Values.{Value}
+use Rattle.list_argument.specs.Standings.{Stands}
 use Rattle.list_argument.specs.declared.Standing.{Standing}
 use Rattle.list.specs.Filled.{Chosen, Values, Unrolls}
 use Rattle.list.specs.Odometer.{AllStand, Restarts, Begun}

@@ -1,48 +1,41 @@
 -- The list of a record is one order for each combination of its values' arguments: the written-out list goes through the same combinations, and the bytes of each are the record's with
 -- these arguments filled in, by induction over blocks and places.
 use mathlib.Core.Path.{_≡_, refl, sym, ap, ap₂, _∙_, subst}
-use mathlib.Core.Bool.{Bool, true, false, cond}
+use mathlib.Core.Bool.{Bool, true, false}
 use mathlib.Core.List.{List, [], _∷_, _++_, map, append-assoc, append-nil, map-append, map-map, map-id}
 use Prim.Native.Nat.{ℕ, suc, _+_, _-_, _≤_}
 use native.Mathlib.Nat.{le-refl}
 use native.Mathlib.Omega.{arith}
 use borrow.Author.Tests.{ne-eqb, eqb-true}
 use lib.Dec.{eqb}
-use lib.ListN.{length, drop, length-append, length-map, take-append-drop}
-use lib.Seq.{drop-drop, drop-append-seam}
+use lib.ListN.{length, drop, length-map, take-append-drop}
+use lib.Seq.{drop-drop}
 use Rattle.laws.specs.Cases.{Always, and-l, and-r}
 use Rattle.laws.specs.Lists.{all, concat, all-concat, all-map}
-use Rattle.rules.specs.Characters.{between, byte}
 use Rattle.rules.specs.Units.{Base, num}
 use Rattle.rules.specs.Refusals.{ok}
-use Rattle.rules.specs.Commands.{Element, single, range, leading, terms, sum, mult, Place, place, Block, block, Command, command, allPlaces, valueCount, placeCount}
-use Rattle.rules.specs.Records.{Field, field, bytesOf, fieldBytes, many, elementFields, placeFields, blockFields, codeTag, blockTag, singleTag, stringTag, headBytes, encode}
-use Rattle.rules.specs.WellFormed.{wfBlock, wfPlace, wfValue, wfElement, bodyOf}
+use Rattle.rules.specs.Commands.{Element, single, range, terms, sum, mult, Place, place, placeValue, Block, block, Command, command, allPlaces, valueCount, placeCount}
+use Rattle.rules.specs.Records.{Field, bytesOf, many, elementFields, placeFields, blockFields, headBytes, encode}
+use Rattle.rules.specs.WellFormed.{wfValue, bodyOf}
 use Rattle.rules.specs.Orders.{stepping, arguments, valueOrders, product, placeOrders, blockOrders, orders, blockCount}
 use Rattle.rules.specs.Listing.{joined, listBytes}
-use Rattle.rules.proofs.CommandBack.{c-blocks}
 use Rattle.rules.proofs.Counts.{terms-pos}
-use Rattle.rules.proofs.DecodeEncode.{place-value}
 use Rattle.rules.proofs.DirectIsList.{values-length}
-use Rattle.rules.proofs.EncodeDecode.{IsBody, body-is}
+use Rattle.rules.proofs.EncodeDecode.{body-is}
 use Rattle.rules.proofs.FieldLaws.{bytes-append, bytes-cons}
 use Rattle.rules.proofs.ListBound.{list-size}
-use Rattle.rules.proofs.Names.{block-places}
-use Rattle.rules.proofs.ValueBack.{v-all}
-use Rattle.record_walk.specs.Fronts.{tagOf}
 use Rattle.record_walk.specs.Runs.{bytesIn}
 use Rattle.record_walk.specs.Spans.{size, headFields, argumentsOf, placeSpans, blockHead, blockSpans, spansOf}
-use Rattle.record_walk.proofs.RunLaws.{drop-behind, stands-inside, size-append, bytes-none, bytes-on}
+use Rattle.record_walk.proofs.RunLaws.{drop-behind, size-append, bytes-none, bytes-on}
+use Rattle.record_walk.proofs.PlaceLaws.{value-behind, place-holds, kindBytes, codeFields, Coded, coded, placesIn, told-places}
 use Rattle.judge.specs.Blocks.{counted}
 use Rattle.judge.specs.Judged.{Told}
-use Rattle.list_argument.specs.Standings.{valueBytes, choicesOf}
+use Rattle.record_walk.specs.Values.{valueBytes, PlaceAt, PlacesAt}
+use Rattle.list_argument.specs.Standings.{choicesOf}
 use Rattle.list.specs.Filled.{listIn, listOf, filled, orderOf, Chosen, Values, listed, Unrolls}
 
-abbrev pub placesIn : Command → List Place
-placesIn (command c bs) = allPlaces bs
-
 abbrev pub placeChoices : Place → List (List ℕ)
-placeChoices (place b nm v) = choicesOf v
+placeChoices p = choicesOf (placeValue p)
 
 -- ---- where the values stand
 
@@ -55,121 +48,29 @@ choices-number b (e ∷ es) h =
     let some : eqb n 0 ≡ false = ne-eqb n 0 (λ z. omega (arith, terms-pos e)) in
     rw some (length-map (valueOrders (e ∷ es)) valueBytes ∙ values-length b (e ∷ es) h)
 
--- all elements of a value have as many leading units
-value-fine : (b : Base) (v : List Element) → wfValue b v ≡ true → (n : ℕ) × (all (wfElement b n) v ≡ true)
-value-fine b [] h = (0, refl)
-value-fine b (e ∷ es) h = (length (leading e), v-all b e es h)
+-- a place's value stands there, with its choices
+place-chosen : {rec : List ℕ} {at n from to : ℕ} (p : Place) → n ≡ argumentsOf p → PlaceAt rec at from to p → Chosen rec at n from to (placeChoices p)
+place-chosen (place b nm v) e t = record {
+  elements = v;
+  holds = place-holds (place b nm v) t;
+  is = refl;
+  behind = omega (arith, t .begins, t .heads .ends);
+  number = rw e (choices-number b v (t .well));
+}
 
--- no element and no unit stands at the front of these fields
-abbrev Low : List Field → Type 0
-Low fs = between singleTag stringTag (tagOf (bytesOf fs)) ≡ false
-
-places-low : (ps : List Place) (rest : List Field) → Low rest → Low (many placeFields ps ++ rest)
-places-low [] rest h = h
-places-low (place b nm v ∷ ps) rest h = refl
-
-blocks-low : (bs : List Block) → Low (many blockFields bs)
-blocks-low [] = refl
-blocks-low (block k ps ∷ bs) = refl
-
-abbrev valueOf : Place → List Element
-valueOf (place b nm v) = v
-
--- in a place its value stands behind its own field and its name
-value-behind : (rec : List ℕ) (q : ℕ) (p : Place) (rest : List ℕ) → drop q rec ≡ bytesOf (placeFields p) ++ rest
-    → drop q rec ≡ bytesOf (headFields p) ++ (valueBytes (valueOf p) ++ rest)
-value-behind rec q (place b nm v) rest h =
-    let u : List Field = headFields (place b nm v) in
-    h ∙ ap (λ (l : List ℕ). l ++ rest) (bytes-append u (many elementFields v)) ∙ append-assoc (bytesOf u) (valueBytes v) rest
-
--- a place that stands at q, and no element or unit behind it: its value stands there, with its choices
-place-chosen : (rec : List ℕ) (at q : ℕ) (k : Bool) (p : Place) (rest : List Field) → at ≤ q → q ≤ length rec → drop q rec ≡ bytesOf (placeFields p) ++ bytesOf rest
-    → wfPlace k p ≡ true → Low rest → Chosen rec at (argumentsOf p) (q + size (headFields p)) (q + size (placeFields p)) (placeChoices p)
-place-chosen rec at q k (place b nm v) rest behind inside stands fine low =
-    let p : Place = place b nm v in
-    let well : wfValue b v ≡ true = place-value k b nm v fine in
-    let f : (n : ℕ) × (all (wfElement b n) v ≡ true) = value-fine b v well in
-    record {
-      elements = v;
-      holds = record {
-        base = b;
-        lead = f .0;
-        rest = rest;
-        stands = drop-behind rec q (bytesOf (headFields p)) (valueBytes v ++ bytesOf rest) (value-behind rec q p (bytesOf rest) stands);
-        ends = omega (arith, size-append (headFields p) (many elementFields v));
-        inside = stands-inside rec q (bytesOf (placeFields p)) (bytesOf rest) stands inside;
-        fine = f .1;
-        low = low;
-      };
-      is = refl;
-      behind = omega arith;
-      number = choices-number b v well;
-    }
-
--- places that stand at q, and what is said of the places behind them
-module _ (rec : List ℕ) (k : Bool) (rest : List Field) (low : Low rest) (row : List ℕ) (fs : List (List (List ℕ))) where
-  places-values : (ps : List Place) (at q : ℕ) → at ≤ q → q ≤ length rec → drop q rec ≡ bytesOf (many placeFields ps) ++ bytesOf rest → all (wfPlace k) ps ≡ true
-      → ((n : ℕ) → n ≤ q + size (many placeFields ps) → Values rec n row fs) → Values rec at (placeSpans q ps ++ row) (map placeChoices ps ++ fs)
-  places-values [] at q behind inside stands fine more = more at (omega arith)
-  places-values (p ∷ ps) at q behind inside stands fine more =
-      let q′ : ℕ = q + size (placeFields p) in
-      let others : List Field = many placeFields ps ++ rest in
-      let e : drop q rec ≡ bytesOf (placeFields p) ++ (bytesOf (many placeFields ps) ++ bytesOf rest) = stands ∙ bytes-cons placeFields p ps (bytesOf rest) in
-      let e′ : drop q rec ≡ bytesOf (placeFields p) ++ bytesOf others =
-      e ∙ ap (λ (l : List ℕ). bytesOf (placeFields p) ++ l) (sym (bytes-append (many placeFields ps) rest)) in (
-        place-chosen rec at q k p others behind inside e′ (and-l (wfPlace k p) (all (wfPlace k) ps) fine) (places-low ps rest low),
-        places-values ps q′ q′ (le-refl q′) (stands-inside rec q (bytesOf (placeFields p)) (bytesOf others) e′ inside)
-            (drop-behind rec q (bytesOf (placeFields p)) (bytesOf (many placeFields ps) ++ bytesOf rest) e)
-            (and-r (wfPlace k p) (all (wfPlace k) ps) fine)
-            (λ n h. more n (omega (arith, size-append (placeFields p) (many placeFields ps)))),
-      )
-
--- what a block begins with
-abbrev kindBytes : Bool → List ℕ
-kindBytes k = fieldBytes (field blockTag (cond k (byte "N") (byte "P") ∷ []))
-
--- blocks that stand at q, up to the record's end
-blocks-values : (rec : List ℕ) (bs : List Block) (at q : ℕ) → at ≤ q → q ≤ length rec → drop q rec ≡ bytesOf (many blockFields bs) → all wfBlock bs ≡ true
-    → Values rec at (blockSpans q bs) (map placeChoices (allPlaces bs))
-blocks-values rec [] at q behind inside stands fine = omega arith
-blocks-values rec (block k ps ∷ bs) at q behind inside stands fine =
-    let b : Block = block k ps in
-    let q′ : ℕ = q + size (blockFields b) in
-    let others : List Field = many blockFields bs in
-    let e : drop q rec ≡ bytesOf (blockFields b) ++ bytesOf others = stands ∙ bytes-append (blockFields b) others in
-    rw (map-append placeChoices ps (allPlaces bs))
-    (places-values rec k others (blocks-low bs) (blockSpans q′ bs) (map placeChoices (allPlaces bs)) ps at (q + blockHead) (omega arith)
-    (stands-inside rec q (kindBytes k) (bytesOf (many placeFields ps) ++ bytesOf others) e inside)
-    (drop-behind rec q (kindBytes k) (bytesOf (many placeFields ps) ++ bytesOf others) e)
-    (block-places k ps (and-l (wfBlock b) (all wfBlock bs) fine))
-    (λ n h.
-    blocks-values rec bs n q′ (omega arith) (stands-inside rec q (bytesOf (blockFields b)) (bytesOf others) e inside)
-    (drop-behind rec q (bytesOf (blockFields b)) (bytesOf others) e)
-    (and-r (wfBlock b) (all wfBlock bs) fine)))
-
-abbrev codeFields : List (List ℕ) → List Field
-codeFields c = map (λ w. field codeTag w) c
-
--- a command's blocks stand behind its code
-record Coded (rec : List ℕ) (c : List (List ℕ)) (bs : List Block) : Type 0 where
-  bytes : rec ≡ bytesOf (codeFields c) ++ bytesOf (many blockFields bs)
-  stands : drop (size (codeFields c)) rec ≡ bytesOf (many blockFields bs)
-  inside : size (codeFields c) ≤ length rec
-
-coded : (rec : List ℕ) (c : List (List ℕ)) (bs : List Block) → IsBody rec (command c bs) → Coded rec c bs
-coded rec c bs is =
-    let u : List ℕ = bytesOf (codeFields c) in
-    let v : List ℕ = bytesOf (many blockFields bs) in
-    let e : rec ≡ u ++ v = sym (is .bytes) ∙ bytes-append (codeFields c) (many blockFields bs) in
-    record { bytes = e; stands = ap (drop (length u)) e ∙ drop-append-seam u v; inside = omega (arith, ap length e, length-append u v) }
+places-values : (rec : List ℕ) (at : ℕ) (row : List ℕ) (ps : List Place) → PlacesAt rec at row ps → Values rec at row (map placeChoices ps)
+places-values rec at [] [] t = t
+places-values rec at [] (p ∷ ps) t = absurd t
+places-values rec at (n ∷ []) [] t = absurd t
+places-values rec at (n ∷ []) (p ∷ ps) t = absurd t
+places-values rec at (n ∷ (from ∷ [])) [] t = absurd t
+places-values rec at (n ∷ (from ∷ [])) (p ∷ ps) t = absurd t
+places-values rec at (n ∷ (from ∷ (to ∷ row))) [] t = absurd t
+places-values rec at (n ∷ (from ∷ (to ∷ row))) (p ∷ ps) t = (place-chosen p (t .0) (t .1), places-values rec to row ps (t .2))
 
 -- a command's values stand where its spans say
 pub told-values : (rec : List ℕ) (c : Command) → bodyOf rec ≡ ok c → Values rec 0 (spansOf c) (map placeChoices (placesIn c))
-unfolding spansOf
-told-values rec (command c bs) h =
-    let is : IsBody rec (command c bs) = body-is rec (command c bs) h in
-    let k : Coded rec c bs = coded rec c bs is in
-    blocks-values rec bs 0 (size (codeFields c)) (omega arith) (k .inside) (k .stands) (c-blocks c bs (is .well))
+told-values rec c h = places-values rec 0 (spansOf c) (placesIn c) (told-places rec c h)
 
 -- ---- lists that go together
 
@@ -330,7 +231,7 @@ module _ (rec : List ℕ) (q : ℕ) (p : Place) (ps : List Place) (rest : List �
             let e : u ++ (a ++ v) ≡ bytesOf (many placeFields (p′ ∷ qs)) ++ w =
             sym (bytes-cons placeFields p′ qs w ∙ ap (λ (l : List ℕ). l ++ v) (o .bytes) ∙ append-assoc u a v) in
             subst (Reads rec q (placeSpans q (p ∷ ps) ++ row) (a ∷ (as′ ++ bs))) e
-            (reads-place rec q p (placeSpans q′ ps ++ row) a (as′ ++ bs) v (valueBytes (valueOf p) ++ rest) (value-behind rec q p rest stands)
+            (reads-place rec q p (placeSpans q′ ps ++ row) a (as′ ++ bs) v (valueBytes (placeValue p) ++ rest) (value-behind rec q p rest stands)
             (t .reads row bs w (subst (λ m. Reads rec m row bs w) n r)));
       }
 

@@ -22,7 +22,8 @@ use Rattle.record_walk.specs.Fronts.{tagOf}
 use Rattle.record_walk.specs.Runs.{bytesIn}
 use Rattle.judge.specs.Blocks.{counted}
 use Rattle.judge.proofs.ToldLaws.{three-front}
-use Rattle.list_argument.specs.Standings.{valueBytes, choicesOf, Holds}
+use Rattle.record_walk.specs.Values.{valueBytes, Holds}
+use Rattle.list_argument.specs.Standings.{choicesOf}
 use Rattle.list_argument.proofs.StandingLaws.{arguments-some}
 use Rattle.list.specs.Filled.{filled, orderOf, Chosen, Values, Unrolls, staysAt}
 use Rattle.list.proofs.RowLaws.{values-long}

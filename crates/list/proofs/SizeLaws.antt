@@ -19,7 +19,8 @@ use Rattle.rules.proofs.DirectIsList.{grid, grid-length}
 use Rattle.record_walk.specs.Runs.{bytesIn}
 use Rattle.record_walk.proofs.RunLaws.{long-in}
 use Rattle.judge.specs.Blocks.{counted}
-use Rattle.list_argument.specs.Standings.{choicesOf, Holds, Value}
+use Rattle.record_walk.specs.Values.{Holds, Value}
+use Rattle.list_argument.specs.Standings.{choicesOf}
 use Rattle.list.specs.Filled.{listOf, filled, orderOf, Chosen, Values, listed, Unrolls}
 use Rattle.list.proofs.OdometerLaws.{Some}
 use Rattle.list.proofs.RowLaws.{values-long, values-some, PlaceOf, place-of}

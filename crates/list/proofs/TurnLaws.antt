@@ -9,7 +9,8 @@ use lib.ListN.{length, getD, take, drop, set, length-append, length-take, length
 use lib.Seq.{drop-append-seam}
 use Rattle.laws.specs.Over.{part, back as given, part-from, length-part}
 use Rattle.judge.proofs.ToldLaws.{three-front}
-use Rattle.list_argument.specs.Standings.{Value, Stands, Argument, IsFirst, IsNext}
+use Rattle.record_walk.specs.Values.{Value}
+use Rattle.list_argument.specs.Standings.{Stands, Argument, IsFirst, IsNext}
 use Rattle.list_argument.specs.declared.Standing.{Standing}
 use Rattle.list_argument.proofs.StandingLaws.{stands-some, stands-inside}
 use Rattle.list.specs.Filled.{Chosen, Values}

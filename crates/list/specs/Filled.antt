@@ -16,7 +16,8 @@ use Rattle.rules.specs.Listing.{joined, listBytes}
 use Rattle.record_walk.specs.Fronts.{tagOf}
 use Rattle.record_walk.specs.Runs.{bytesIn}
 use Rattle.judge.specs.Blocks.{counted}
-use Rattle.list_argument.specs.Standings.{choicesOf, Holds}
+use Rattle.record_walk.specs.Values.{Holds}
+use Rattle.list_argument.specs.Standings.{choicesOf}
 
 -- the list of a command that is found in bytes
 abbrev pub listIn : Res Command → List ℕ

@@ -10,7 +10,8 @@ use Rattle.rules.specs.Commands.{Element}
 use Rattle.rules.specs.Orders.{product}
 use Rattle.record_walk.specs.Runs.{bytesIn}
 use Rattle.order_argument.specs.Terms.{valuedBytes}
-use Rattle.list_argument.specs.Standings.{choicesOf, Holds, Stands, IsFirst}
+use Rattle.record_walk.specs.Values.{Holds}
+use Rattle.list_argument.specs.Standings.{choicesOf, Stands, IsFirst}
 use Rattle.list_argument.specs.declared.Standing.{Standing}
 use Rattle.list.specs.Filled.{Values}
 

@@ -1,85 +1,32 @@
 -- Where an argument stands, all that are left of its value follow: of its own element the terms from its own on, which a step goes through one by one, and then those of each element behind it.
 use mathlib.Core.Path.{_≡_, refl, sym, ap, _∙_, subst}
 use mathlib.Core.Bool.{Bool, true, false, false≢true}
-use mathlib.Core.List.{List, [], _∷_, _++_, map, map-map, append-nil}
+use mathlib.Core.List.{List, [], _∷_, map, map-map, append-nil}
 use Prim.Native.Nat.{ℕ, suc, _+_, _-_, _≤_, _<_}
 use native.Mathlib.Omega.{arith}
 use borrow.Author.Tests.{le-leb, lt-leb, leb-true, leb-false}
 use lib.Dec.{leb}
-use lib.ListN.{length, take, drop, length-append, length-map}
-use lib.Seq.{take-at}
+use lib.ListN.{length, length-append, length-map}
 use Rattle.laws.specs.Cases.{byBool, and-l, and-r, conjuncts}
 use Rattle.laws.specs.Lists.{all, concat}
 use Rattle.rules.specs.Units.{Base, num}
 use Rattle.rules.specs.Commands.{Element, single, range}
-use Rattle.rules.specs.Records.{bytesOf, many, elementFields, num4}
+use Rattle.rules.specs.Records.{bytesOf, elementFields, num4}
 use Rattle.rules.specs.WellFormed.{wfElement}
 use Rattle.rules.specs.Orders.{stepping, arguments}
 use Rattle.rules.proofs.DirectIsList.{range-ends, arguments-length}
 use Rattle.rules.proofs.Counts.{terms-pos}
 use Rattle.rules.proofs.DecodeEncode.{value-small}
-use Rattle.rules.proofs.FieldLaws.{bytes-append, bytes-cons}
 use Rattle.rules.proofs.Progression.{stepping-is, stepping-past}
 use Rattle.rules.proofs.ValueBack.{ok-range}
-use Rattle.record_walk.specs.Runs.{Whole, ElementTo, bytesIn}
-use Rattle.record_walk.proofs.RunLaws.{drop-behind, bytes-none}
+use Rattle.record_walk.specs.Runs.{ElementTo, bytesIn}
+use Rattle.record_walk.proofs.RunLaws.{bytes-none}
+use Rattle.record_walk.specs.Values.{valueBytes, Holds, Value}
+use Rattle.record_walk.proofs.ValueLaws.{element-some, value-cons, first-bytes, behind-first, fine-first, end-is}
 use Rattle.order_argument.specs.Terms.{isRange, upperAt, incrementAt, valuedBytes}
-use Rattle.order_argument.proofs.TermLaws.{range-long, range-is, single-is, upper-is, increment-is, lower-is, valued-single, valued-range, no-unit-behind}
+use Rattle.order_argument.proofs.TermLaws.{range-long, range-is, single-is, upper-is, increment-is, lower-is, valued-single, valued-range}
 use Rattle.list_argument.specs.declared.Standing.{Standing}
-use Rattle.list_argument.specs.Standings.{valueBytes, choicesOf, Holds, Value, argumentsFrom, leftOf, NotPast, Ends, Stands, Argument, IsFirst, IsNext, firstTerm, goesOn}
-
--- ---- elements that stand in a record
-
--- an element has bytes
-pub element-some : (e : Element) → 0 < length (bytesOf (elementFields e))
-element-some (single l u) = omega arith
-element-some (range l r lo up inc) = omega arith
-
-pub value-cons : (e : Element) (es : List Element) → length (valueBytes (e ∷ es)) ≡ length (bytesOf (elementFields e)) + length (valueBytes es)
-value-cons e es = ap length (bytes-append (elementFields e) (many elementFields es)) ∙ length-append (bytesOf (elementFields e)) (valueBytes es)
-
-pub holds-whole : {rec : List ℕ} {from to : ℕ} {es : List Element} → Holds rec from to es → Whole rec from
-holds-whole {es = es} h = record {
-  fs = many elementFields es ++ h .rest;
-  is = h .stands ∙ sym (bytes-append (many elementFields es) (h .rest));
-  inside = omega (arith, h .ends, h .inside);
-}
-
-pub value-whole : {rec : List ℕ} {from to : ℕ} → Value rec from to → Whole rec from
-value-whole v = holds-whole (v .holds)
-
-module _ {rec : List ℕ} {from to end : ℕ} (e : Element) (es : List Element) (h : Holds rec from to (e ∷ es)) (q : end ≡ from + length (bytesOf (elementFields e))) where
-  abbrev own : List ℕ
-  own = bytesOf (elementFields e)
-
-  from-on : drop from rec ≡ own ++ (valueBytes es ++ bytesOf (h .rest))
-  from-on = h .stands ∙ bytes-cons elementFields e es (bytesOf (h .rest))
-
-  -- the first element's own bytes
-  pub first-bytes : bytesIn rec from end ≡ own
-  first-bytes = ap (take (end - from)) from-on ∙ take-at own (valueBytes es ++ bytesOf (h .rest)) (end - from) (omega arith)
-
-  -- and the others behind it
-  pub behind-first : Holds rec end to es
-  behind-first = record {
-    base = h .base;
-    lead = h .lead;
-    rest = h .rest;
-    stands = ap (λ (n : ℕ). drop n rec) q ∙ drop-behind rec from own (valueBytes es ++ bytesOf (h .rest)) from-on;
-    ends = omega (arith, h .ends, value-cons e es);
-    inside = h .inside;
-    fine = and-r (wfElement (h .base) (h .lead) e) (all (wfElement (h .base) (h .lead)) es) (h .fine);
-    low = h .low;
-  }
-
-  pub fine-first : wfElement (h .base) (h .lead) e ≡ true
-  fine-first = and-l (wfElement (h .base) (h .lead) e) (all (wfElement (h .base) (h .lead)) es) (h .fine)
-
--- where the element's end was found
-pub end-is : {rec : List ℕ} {from to end : ℕ} (e : Element) (es : List Element) (h : Holds rec from to (e ∷ es)) → ElementTo rec from end
-    → end ≡ from + length (bytesOf (elementFields e))
-end-is e es h t =
-    t .is e (valueBytes es ++ bytesOf (h .rest)) (h .stands ∙ bytes-cons elementFields e es (bytesOf (h .rest))) (no-unit-behind es (bytesOf (h .rest)) (h .low))
+use Rattle.list_argument.specs.Standings.{choicesOf, argumentsFrom, leftOf, NotPast, Ends, Stands, Argument, IsFirst, IsNext, firstTerm, goesOn}
 
 -- ---- the arguments of elements
 

@@ -17,8 +17,10 @@ use Rattle.rules.proofs.ValueBack.{ok-range}
 use Rattle.record_walk.specs.Runs.{ElementTo, bytesIn}
 use Rattle.order_argument.specs.Terms.{moreTerms, valuedBytes}
 use Rattle.order_argument.proofs.TermLaws.{terms-are, valued-single, valued-range, valued-short}
-use Rattle.list_argument.specs.Standings.{valueBytes, choicesOf, Holds, Value}
-use Rattle.list_argument.proofs.StandingLaws.{alone, alone-is, end-is, first-bytes, behind-first, fine-first, value-cons, element-some}
+use Rattle.record_walk.specs.Values.{valueBytes, Holds, Value}
+use Rattle.list_argument.specs.Standings.{choicesOf}
+use Rattle.list_argument.proofs.StandingLaws.{alone, alone-is}
+use Rattle.record_walk.proofs.ValueLaws.{end-is, first-bytes, behind-first, fine-first, value-cons, element-some, element-on}
 
 -- ---- lists
 
@@ -99,13 +101,8 @@ module _ {rec : List ℕ} {from to at len : ℕ} (v : Summing rec from to at len
       none-size [] g = refl
       none-size (b ∷ bs) g = absurd (omega (arith, g .ends, value-cons b bs, element-some b))
 
-  -- an element has bytes
   pub summing-less : {end : ℕ} → at < to → ElementTo rec at end → to - end < to - at
-  summing-less {end} lt t = go (v .value .elements) (v .value .holds)
-    where
-      go : (bs : List Element) → Holds rec at to bs → to - end < to - at
-      go [] g = absurd (omega (arith, g .ends))
-      go (b ∷ bs) g = omega (arith, end-is b bs g t, element-some b)
+  summing-less lt t = omega (arith, element-on (v .value) lt t)
 
   module _ {end more n : ℕ} (lt : at < to) (t : ElementTo rec at end) (em : more ≡ moreTerms (bytesIn rec at end)) (small : more < 4294967296)
       (en : (u : ℕ) → n ≡ length (valuedBytes (bytesIn rec at end) u)) where
@@ -121,38 +118,34 @@ module _ {rec : List ℕ} {from to at len : ℕ} (v : Summing rec from to at len
         let m2 : (more + 1) * n ≡ (moreTerms (bytesOf (elementFields b)) + 1) * n = ap (λ (k : ℕ). (k + 1) * n) m in
         record { elements = bs; holds = behind-first b bs g q; is = e ∙ omega (arith, size-cons b bs, s, m2) }
 
-    value-next : (bs : List Element) → Holds rec at to bs → Value rec end to × (end ≤ to) × (at < end) × (n ≤ end - at)
+    value-next : (bs : List Element) → Holds rec at to bs → Value rec end to × (n ≤ end - at)
     value-next [] g = absurd (omega (arith, g .ends))
     value-next (b ∷ bs) g =
         let q : end ≡ at + length (bytesOf (elementFields b)) = end-is b bs g t in
-        let x : bytesIn rec at end ≡ bytesOf (elementFields b) = first-bytes b bs g q in (
-          record { elements = bs; holds = behind-first b bs g q },
-          omega (arith, g .ends, value-cons b bs),
-          omega (arith, element-some b),
-          omega (arith, en 0, valued-short (bytesIn rec at end) 0, ap length x),
-        )
+        let x : bytesIn rec at end ≡ bytesOf (elementFields b) = first-bytes b bs g q in
+        (record { elements = bs; holds = behind-first b bs g q }, omega (arith, en 0, valued-short (bytesIn rec at end) 0, ap length x))
 
     low-next : len + (more + 1) * n ≤ 4294967296 * (end - from)
     low-next =
         let p = value-next (v .value .elements) (v .value .holds) in
         let a : (more + 1) * n ≤ 4294967296 * n = mul-le-mul-right n (omega arith) in
-        let b : 4294967296 * n ≤ 4294967296 * (end - at) = mul-le-mul-left 4294967296 (p .3) in
-        omega (arith, v .low, v .behind, p .2)
+        let b : 4294967296 * n ≤ 4294967296 * (end - at) = mul-le-mul-left 4294967296 (p .1) in
+        omega (arith, v .low, v .behind, element-on (v .value) lt t)
 
     pub summing-more : Summing rec from to end (len + (more + 1) * n)
     summing-more =
         let p = value-next (v .value .elements) (v .value .holds) in
         record {
           value = p .0;
-          behind = omega (arith, v .behind, p .2);
-          inside = p .1;
+          behind = omega (arith, v .behind, element-on (v .value) lt t);
+          inside = element-on (v .value) lt t .1;
           low = low-next;
           sum = λ es h. let l : Left rec to at len es = v .sum es h in next-sum es (l .elements) (l .holds) (l .is);
         }
 
     -- nothing wraps, since a value's end is told in two bytes
     pub summing-fits : to < 65536 → len + (more + 1) * n < 18446744073709551616
-    summing-fits k = omega (arith, low-next, value-next (v .value .elements) (v .value .holds) .1)
+    summing-fits k = omega (arith, low-next, element-on (v .value) lt t)
 
     pub summing-product : to < 65536 → (more + 1) * n < 18446744073709551616
     summing-product k = omega (arith, summing-fits k)

@@ -1,43 +1,23 @@
 -- The arguments of a value one behind the other, as they are written: where one stands in a record, which is the first, which the next.
 use mathlib.Core.Path.{_≡_}
-use mathlib.Core.Bool.{Bool, true, false, _&&_}
+use mathlib.Core.Bool.{Bool, _&&_}
 use mathlib.Core.List.{List, [], _∷_, _++_, map}
 use Prim.Native.Nat.{ℕ, suc, _+_, _-_, _≤_, _<_}
 use lib.Dec.{leb}
-use lib.ListN.{length, drop}
+use lib.ListN.{length}
 use Rattle.laws.specs.Cases.{Always, pick}
-use Rattle.laws.specs.Lists.{all, concat}
-use Rattle.rules.specs.Characters.{between}
-use Rattle.rules.specs.Units.{Base, num}
+use Rattle.laws.specs.Lists.{concat}
+use Rattle.rules.specs.Units.{num}
 use Rattle.rules.specs.Commands.{Element, single, range}
-use Rattle.rules.specs.Records.{Field, bytesOf, many, elementFields, num4, singleTag, stringTag}
-use Rattle.rules.specs.WellFormed.{wfElement}
+use Rattle.rules.specs.Records.{bytesOf, elementFields, num4}
 use Rattle.rules.specs.Orders.{stepping, arguments, valueOrders}
-use Rattle.record_walk.specs.Fronts.{tagOf}
+use Rattle.record_walk.specs.Values.{valueBytes, Holds}
 use Rattle.order_argument.specs.Terms.{isRange, lowerAt, upperAt, incrementAt}
 use Rattle.list_argument.specs.declared.Standing.{Standing}
-
-abbrev pub valueBytes : List Element → List ℕ
-valueBytes v = bytesOf (many elementFields v)
 
 -- a value reduced to one argument, in every way: its bytes
 abbrev pub choicesOf : List Element → List (List ℕ)
 choicesOf v = map valueBytes (valueOrders v)
-
--- these elements stand in a record from `from` to `to`, and behind them no element or unit
-pub record Holds (rec : List ℕ) (from to : ℕ) (es : List Element) : Type 0 where
-  pub base : Base
-  pub lead : ℕ
-  pub rest : List Field
-  pub stands : drop from rec ≡ valueBytes es ++ bytesOf rest
-  pub ends : to ≡ from + length (valueBytes es)
-  pub inside : to ≤ length rec
-  pub fine : all (wfElement base lead) es ≡ true
-  pub low : between singleTag stringTag (tagOf (bytesOf rest)) ≡ false
-
-pub record Value (rec : List ℕ) (from to : ℕ) : Type 0 where
-  pub elements : List Element
-  pub holds : Holds rec from to elements
 
 -- ---- an argument of a value, and all behind it
 

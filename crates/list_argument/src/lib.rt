@@ -4,7 +4,8 @@ ghost use mathlib.Core.List.{List};
 ghost use lib.ListN.{length};
 ghost use Rattle.laws.specs.Lists.{concat};
 ghost use Rattle.rules.specs.Commands.{Element};
-ghost use Rattle.list_argument.specs.Standings.{choicesOf, Holds, Value, Argument, IsFirst, IsNext, firstTerm, goesOn};
+ghost use Rattle.record_walk.specs.Values.{Holds, Value};
+ghost use Rattle.list_argument.specs.Standings.{choicesOf, Argument, IsFirst, IsNext, firstTerm, goesOn};
 
 // Where an argument stands: the element that names it, and which of a range's terms it is.
 pub struct Standing {

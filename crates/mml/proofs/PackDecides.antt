@@ -1,5 +1,5 @@
 -- The C interface's one number decides: number and value are its quotient and remainder by 2^32, since every call's value is below 2^32; so two results that meet
--- `Packs`, `PacksCount` or `PacksKey` are equal.
+-- `Packs`, `PacksNumber` or `PacksKey` are equal.
 use Prim.Native.Nat.{ℕ, _+_, _*_, _/_, _%_, _^_, _<_}
 use mathlib.Core.Path.{_≡_, refl, sym, ap, _∙_}
 use mathlib.Core.List.{List, [], _∷_, map}
@@ -9,10 +9,10 @@ use Rattle.rules.specs.declared.Answer.{Answer}
 use Rattle.rules.specs.declared.Answer.the-variants.{Done, Refused}
 use Rattle.rules.specs.declared.Keeper.{Keeper}
 use Rattle.rules.specs.Refusals.{Res, mapR}
-use Rattle.rules.specs.Answers.{reading, printing, ordering, counting, listing, answered, numberOf, valueOf}
+use Rattle.rules.specs.Answers.{reading, printing, ordering, counting, listing, locating, answered, numberOf, valueOf}
 use Rattle.rules.specs.Keeping.{afterKey}
-use Rattle.rules.proofs.AnswersFit.{reading-most, printing-most, ordering-most, counting-most, listing-most, pressing-most}
-use Rattle.mml.specs.Interface.{packed, Packs, PacksCount, PacksKey}
+use Rattle.rules.proofs.AnswersFit.{reading-most, printing-most, ordering-most, counting-most, listing-most, locating-most, pressing-most}
+use Rattle.mml.specs.Interface.{packed, Packs, PacksNumber, PacksKey}
 
 -- answers and their numbers, worked out by hand: 17 times 4,294,967,296, and 4; the greatest value
 pub packed-are :
@@ -58,8 +58,12 @@ order-parts rec k old r new p = packed-parts r (answered (mapR length (ordering 
 pub list-parts : (rec old : List ℕ) (r : ℕ) (new : List ℕ) → Packs (listing rec old) old r new → Parts r (answered (mapR length (listing rec old)))
 list-parts rec old r new p = packed-parts r (answered (mapR length (listing rec old))) (p .answers) (listing-most rec old)
 
-pub count-parts : (rec : List ℕ) (r : ℕ) → PacksCount rec r → Parts r (answered (counting rec))
+pub count-parts : (rec : List ℕ) (r : ℕ) → PacksNumber (counting rec) r → Parts r (answered (counting rec))
 count-parts rec r p = packed-parts r (answered (counting rec)) p (omega (arith, counting-most rec))
+
+-- a place's number has 32 bits
+pub member-parts : (rec : List ℕ) (n : ℕ) (w : List ℕ) (r : ℕ) → n < 2 ^ 32 → PacksNumber (locating rec n w) r → Parts r (answered (locating rec n w))
+member-parts rec n w r h p = packed-parts r (answered (locating rec n w)) p (locating-most rec n w h)
 
 pub key-parts : (k : Keeper) (c r : ℕ) (new : Keeper) → PacksKey k c r new → Parts r (afterKey k c .answer)
 key-parts k c r new p = packed-parts r (afterKey k c .answer) (p .answers) (omega (arith, pressing-most k c))
@@ -68,8 +72,8 @@ key-parts k c r new p = packed-parts r (afterKey k c .answer) (p .answers) (omeg
 pub packs-decided : (result : Res (List ℕ)) (old : List ℕ) (r s : ℕ) (new also : List ℕ) → Packs result old r new → Packs result old s also → (r ≡ s) × (new ≡ also)
 packs-decided result old r s new also p q = (p .answers ∙ sym (q .answers), p .holds ∙ sym (q .holds))
 
-pub count-decided : (rec : List ℕ) (r s : ℕ) → PacksCount rec r → PacksCount rec s → r ≡ s
-count-decided rec r s p q = p ∙ sym q
+pub number-decided : (result : Res ℕ) (r s : ℕ) → PacksNumber result r → PacksNumber result s → r ≡ s
+number-decided result r s p q = p ∙ sym q
 
 pub key-decided : (k : Keeper) (c r s : ℕ) (new also : Keeper) → PacksKey k c r new → PacksKey k c s also → (r ≡ s) × (new ≡ also)
 key-decided k c r s new also p q = (p .answers ∙ sym (q .answers), p .holds ∙ sym (q .holds))

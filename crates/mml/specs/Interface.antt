@@ -6,11 +6,11 @@ use lib.ListN.{length}
 use Rattle.rules.specs.declared.Answer.{Answer}
 use Rattle.rules.specs.declared.Keeper.{Keeper}
 use Rattle.rules.specs.Refusals.{Res, mapR}
-use Rattle.rules.specs.Answers.{answered, buffered, counting, numberOf, valueOf}
+use Rattle.rules.specs.Answers.{answered, buffered, numberOf, valueOf}
 use Rattle.rules.specs.Keeping.{afterKey}
 use Rattle.mml.specs.declared.Numbered.{Numbered}
 
--- number 0: the value is the bytes written (count: the number of orders; a key: 1 if the line is ready, else 0); else the value is the place
+-- number 0: the value is the bytes written (count: the number of orders; member: 0, or 1 and the position; a key: 1 if the line is ready, else 0); else the value is the place
 abbrev pub packed : Answer → ℕ
 packed a = numberOf a * 2 ^ 32 + valueOf a
 
@@ -18,8 +18,9 @@ pub record Packs (result : Res (List ℕ)) (old : List ℕ) (r : ℕ) (new : Lis
   pub answers : r ≡ packed (answered (mapR length result))
   pub holds : new ≡ buffered result old
 
-abbrev pub PacksCount : List ℕ → ℕ → Type 0
-PacksCount record′ r = r ≡ packed (answered (counting record′))
+-- a call that writes nothing
+abbrev pub PacksNumber : Res ℕ → ℕ → Type 0
+PacksNumber result r = r ≡ packed (answered result)
 
 -- a key: the number, and every byte of the keeper
 pub record PacksKey (old : Keeper) (key : ℕ) (r : ℕ) (new : Keeper) : Type 0 where

@@ -1,8 +1,8 @@
-// The public face: read, print, order, count, list and key, for Rattle and for C.
+// The public face: read, print, order, count, list, member and key, for Rattle and for C.
 ghost use mathlib.Core.Path.{_≡_};
-ghost use Rattle.rules.specs.Answers.{reading, printing, ordering, counting, listing, Reads, Prints, Orders, Counts, Lists};
+ghost use Rattle.rules.specs.Answers.{reading, printing, ordering, counting, listing, locating, Reads, Prints, Orders, Counts, Lists, Locates};
 ghost use Rattle.rules.specs.Keeping.{afterKey};
-ghost use Rattle.mml.specs.Interface.{packed, Packs, PacksCount, PacksKey, numbered};
+ghost use Rattle.mml.specs.Interface.{packed, Packs, PacksNumber, PacksKey, numbered};
 use rules::Answer;
 use rules::Keeper;
 use rules::Pressed;
@@ -43,6 +43,13 @@ pub fn list(rec: &[u8], out: &mut [u8]) -> Answer
     ensures { λ r. ⌜ Lists (now (rec .entry)) (now (out .entry)) r (now (out .exit)) ⌝ }
 {
     list::list(rec, out)
+}
+
+// Where an argument stands among the arguments of a record's place, if it does.
+pub fn member(rec: &[u8], place: u32, argument: &[u8]) -> Answer
+    ensures { λ r. ⌜ Locates (now (rec .entry)) place (now (argument .entry)) r ⌝ }
+{
+    member::member(rec, place, argument)
 }
 
 // One key to a line keeper.
@@ -92,7 +99,7 @@ pub extern "C" fn mml_order(rec: &[u8], k: u64, out: &mut [u8]) -> u64
 // `mml_count` of include/mml.h.
 #[no_mangle]
 pub extern "C" fn mml_count(rec: &[u8]) -> u64
-    ensures { λ r. ⌜ PacksCount (now (rec .entry)) r ⌝ }
+    ensures { λ r. ⌜ PacksNumber (counting (now (rec .entry))) r ⌝ }
 {
     let counting = count(rec);
     pack(counting)
@@ -105,6 +112,15 @@ pub extern "C" fn mml_list(rec: &[u8], out: &mut [u8]) -> u64
 {
     let listing = list(rec, out);
     pack(listing)
+}
+
+// `mml_member` of include/mml.h.
+#[no_mangle]
+pub extern "C" fn mml_member(rec: &[u8], place: u32, argument: &[u8]) -> u64
+    ensures { λ r. ⌜ PacksNumber (locating (now (rec .entry)) place (now (argument .entry))) r ⌝ }
+{
+    let locating = member(rec, place, argument);
+    pack(locating)
 }
 
 // A keeper after a key, and the answer as one number.

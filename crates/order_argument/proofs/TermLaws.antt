@@ -1,7 +1,7 @@
 -- The bytes of an element tell its terms, and so where the n-th argument of a value is: in a range's bytes upper end and increment stand at the front, the lower end at the back, and what stands
 -- between are the leading units.
 use mathlib.Core.Path.{_≡_, refl, sym, ap, _∙_}
-use mathlib.Core.Bool.{Bool, true, false, false≢true}
+use mathlib.Core.Bool.{Bool, true, false}
 use mathlib.Core.List.{List, [], _∷_, _++_, map, map-append, append-assoc, append-nil}
 use Prim.Native.Nat.{ℕ, _+_, _-_, _*_, _/_, _≤_, _<_}
 use native.Mathlib.Nat.{le-refl, mul-le-mul-right, div-mul-le-self}
@@ -14,7 +14,7 @@ use Rattle.laws.specs.Cases.{byBool, and-l, and-r, and-false}
 use Rattle.laws.specs.Over.{over, part, back as given, back-over}
 use Rattle.rules.specs.Units.{Base, Radix, radixLetter, Unit, num}
 use Rattle.rules.specs.Commands.{Element, single, range, terms, sum}
-use Rattle.rules.specs.Records.{field, fourBytes, fieldBytes, bytesOf, unitField, elementFields, num4, many, singleTag, stringTag, isUnit}
+use Rattle.rules.specs.Records.{field, fourBytes, fieldBytes, bytesOf, unitField, elementFields, num4, many, singleTag, stringTag}
 use Rattle.rules.specs.WellFormed.{wfElement}
 use Rattle.rules.specs.Orders.{termAt, argumentAt}
 use Rattle.rules.proofs.DecodeEncode.{four, value-small}
@@ -28,6 +28,7 @@ use Rattle.rules.specs.Characters.{between}
 use Rattle.record_walk.specs.Runs.{Whole, ElementTo, bytesIn}
 use Rattle.order_argument.specs.declared.Argument.{Argument}
 use Rattle.record_walk.proofs.RunLaws.{drop-behind}
+use Rattle.record_walk.proofs.ValueLaws.{no-unit-behind}
 
 -- ---- fields of units one behind the other
 
@@ -207,22 +208,6 @@ nth-here e (e′ ∷ es) n h = rw (lt-ltb n (terms e) h, argumentAt)
 
 nth-later : (e e′ : Element) (es : List Element) (n : ℕ) → terms e ≤ n → argumentAt e (e′ ∷ es) n ≡ argumentAt e′ es (n - terms e)
 nth-later e e′ es n h = rw (le-ltb n (terms e) h, argumentAt)
-
--- ---- what stands behind an element
-
-not-unit : (t : ℕ) → between singleTag stringTag t ≡ false → isUnit t ≡ false
-not-unit t h =
-    byBool (isUnit t)
-    (λ y.
-    let low : 7 ≤ t = leb-true 7 t (and-l (leb 7 t) (leb t 11) y) in
-    let high : leb t 11 ≡ true = and-r (leb 7 t) (leb t 11) y in
-    absurd (false≢true (sym h ∙ rw (le-leb 5 t (omega arith), high))))
-    (λ y. y)
-
-pub no-unit-behind : (es : List Element) (rest : List ℕ) → between singleTag stringTag (tagOf rest) ≡ false → isUnit (tagOf (bytesOf (many elementFields es) ++ rest)) ≡ false
-no-unit-behind [] rest h = not-unit (tagOf rest) h
-no-unit-behind (single l u ∷ es) rest h = refl
-no-unit-behind (range l r lo up inc ∷ es) rest h = refl
 
 -- ---- one element of the value
 

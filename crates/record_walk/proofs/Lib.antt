@@ -1,3 +1,5 @@
 pub mod FrontLaws
 pub mod WalkLaws
 pub mod RunLaws
+pub mod ValueLaws
+pub mod PlaceLaws

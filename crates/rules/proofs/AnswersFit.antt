@@ -1,5 +1,5 @@
 -- Every answer's value fits 32 bits. It is at most 65,536, a place being one in a text, an index, or a number of bytes or of orders, and no record longer; but for the
--- list call, whose list is shorter than 2^32.
+-- list call, whose list is shorter than 2^32, and for 26, whose place is the number that was asked.
 use Prim.Native.Nat.{ℕ, _≤_, _<_}
 use mathlib.Core.Path.{_≡_, ap}
 use mathlib.Core.Bool.{Bool, true, false}
@@ -10,10 +10,10 @@ use Rattle.rules.specs.declared.Keeper.{Keeper}
 use Rattle.rules.specs.Refusals.{Res, ok, bad, mapR}
 use Rattle.rules.specs.WellFormed.{recordOf}
 use Rattle.rules.specs.Listing.{listBytes}
-use Rattle.rules.specs.Answers.{reading, printing, ordering, counting, listing, answered, valueOf}
+use Rattle.rules.specs.Answers.{reading, printing, ordering, counting, listing, locating, answered, valueOf}
 use Rattle.rules.specs.Keeping.{ready, held, flag, settled, pressing, afterKey}
 use Rattle.rules.proofs.EncodeDecode.{record-is}
-use Rattle.rules.proofs.FromTheList.{ReaderRefuses, PrinterRefuses, OrderRefuses, CountRefuses, ListRefuses, KeyRefuses, Record, Text, Orders, Listed, reading-comes, printing-comes, ordering-comes, counting-comes, listing-comes, pressing-comes}
+use Rattle.rules.proofs.FromTheList.{ReaderRefuses, PrinterRefuses, OrderRefuses, CountRefuses, ListRefuses, LocateRefuses, KeyRefuses, Record, Text, Orders, Listed, Located, reading-comes, printing-comes, ordering-comes, counting-comes, listing-comes, locating-comes, pressing-comes}
 use Rattle.rules.proofs.ListBound.{list-size}
 use Rattle.rules.proofs.RefusalPlaces.{Comes, Whatever}
 use Rattle.rules.proofs.ResultLaws.{map-ok}
@@ -74,6 +74,23 @@ list-place-most r old n p (ListRefuses.noRoom h k) = list-most r _ h
 pub listing-most : (r old : List ℕ) → valueOf (answered (mapR length (listing r old))) < 4294967296
 listing-most r old =
     omega (arith, value-most (ListRefuses r old) (Listed r) 4294967295 (listing r old) (listing-comes r old) (list-place-most r old) (list-most r))
+
+-- what is found is at most 4,096
+located-few : (r : List ℕ) (n : ℕ) (w : List ℕ) (k : ℕ) (l : Res ℕ) → Comes (LocateRefuses r n w) Located l → l ≡ ok k → k ≤ 4096
+located-few r n w k l h e = rw e at h
+
+pub locating-few : (r : List ℕ) (n : ℕ) (w : List ℕ) (k : ℕ) → locating r n w ≡ ok k → k ≤ 4096
+locating-few r n w k e = located-few r n w k (locating r n w) (locating-comes r n w) e
+
+-- where an argument stands, or the asked number, or 0
+locate-most : (r : List ℕ) (n : ℕ) (w : List ℕ) (l : Res ℕ) → Comes (LocateRefuses r n w) Located l → n < 4294967296 → valueOf (answered l) < 4294967296
+locate-most r n w (ok k) h few = omega arith
+locate-most r n w (bad nr p) LocateRefuses.notWellFormed few = omega arith
+locate-most r n w (bad nr p) (LocateRefuses.noSuchPlace e z) few = few
+locate-most r n w (bad nr p) (LocateRefuses.wrongArgument e z g) few = omega arith
+
+pub locating-most : (r : List ℕ) (n : ℕ) (w : List ℕ) → n < 4294967296 → valueOf (answered (locating r n w)) < 4294967296
+locating-most r n w few = locate-most r n w (locating r n w) (locating-comes r n w) few
 
 -- a key's: 0, 1 or 1,024
 flag-most : (b : Bool) → flag b ≤ 65536

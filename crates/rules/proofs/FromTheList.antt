@@ -1,30 +1,33 @@
 -- "one number from the list": what each call may refuse with, and where; the numbers are the paper's, written out, and a place lies in what its number speaks of.
 use Prim.Native.Nat.{ℕ, _<_, _≤_}
-use mathlib.Core.Path.{_≡_}
-use mathlib.Core.Bool.{true, false, _&&_}
+use mathlib.Core.Path.{_≡_, sym, _∙_}
+use mathlib.Core.Bool.{true, false, _&&_, not, false≢true}
 use mathlib.Core.List.{List, [], _∷_}
 use mathlib.Core.Option.{Option, none, some}
 use native.Mathlib.Omega.{arith}
 use lib.Dec.{eqb, leb, ltb}
 use lib.ListN.{length}
-use borrow.Author.Tests.{leb-true, leb-false, ltb-false}
+use borrow.Author.Tests.{leb-true, leb-false, ltb-false, not-true, not-false}
 use Rattle.laws.specs.Cases.{pick-if, byBool, and-l}
 use Rattle.laws.specs.Keys.{anyOf}
-use Rattle.laws.specs.Lists.{eqL}
+use Rattle.laws.specs.Lists.{eqL, isNil}
 use Rattle.rules.specs.declared.Keeper.{Keeper}
 use Rattle.rules.specs.Refusals.{Res, ok, bad, _>>=_, mapR, guard, mostText}
 use Rattle.rules.specs.Tokens.{Token, semi, idle, run, firstOff, scan}
-use Rattle.rules.specs.Commands.{Command, cutAt}
+use Rattle.rules.specs.Units.{Base}
+use Rattle.rules.specs.Commands.{Element, Command, placeBase, placeValue, cutAt}
 use Rattle.rules.specs.Reading.{readLetters, read}
 use Rattle.rules.specs.Records.{encode, decode, countIn}
 use Rattle.rules.specs.WellFormed.{wellFormed, judged, recordOf}
 use Rattle.rules.specs.Printing.{print}
 use Rattle.rules.specs.Orders.{orderAt, count}
 use Rattle.rules.specs.Listing.{listBytes}
-use Rattle.rules.specs.Answers.{fitted, reading, printing, ordering, counting, listing}
+use Rattle.rules.specs.Positions.{placeOf, argumentOf, isGiven, located}
+use Rattle.rules.specs.Answers.{fitted, reading, printing, ordering, counting, listing, locating}
 use Rattle.rules.specs.Keeping.{ready, held, found, stored, pressing}
 use Rattle.rules.proofs.CountIsField.{count-most, field-is, counted}
 use Rattle.rules.proofs.EncodeDecode.{record-is}
+use Rattle.rules.proofs.LocateCall.{Given, given-back, value-fine, located-most}
 use Rattle.rules.proofs.OrderWellFormed.{order-wf}
 use Rattle.rules.proofs.ReadSound.{read-wf}
 use Rattle.rules.proofs.RecordBound.{record-bound}
@@ -66,6 +69,12 @@ Listed r w = mapR listBytes (recordOf r) ≡ ok w
 pub data ListRefuses (r old : List ℕ) : ℕ → ℕ → Type 0 where
   notWellFormed : ListRefuses r old 18 0
   noRoom : {w : List ℕ} → Listed r w → length old < length w → ListRefuses r old 17 (length w)
+
+-- M-107: "18; 26 no such place or an omitted one, place the asked number; 27 argument not 1 to 4 unit fields that could stand under that place's base, place 0"
+pub data LocateRefuses (r : List ℕ) (n : ℕ) (w : List ℕ) : ℕ → ℕ → Type 0 where
+  notWellFormed : LocateRefuses r n w 18 0
+  noSuchPlace : {c : Command} → recordOf r ≡ ok c → isNil (placeValue (placeOf c n)) ≡ true → LocateRefuses r n w 26 n
+  wrongArgument : {c : Command} → recordOf r ≡ ok c → isNil (placeValue (placeOf c n)) ≡ false → (Given (placeBase (placeOf c n)) w → ⊥) → LocateRefuses r n w 27 0
 
 -- M-100: "20, a key to be held when 1,024 bytes of a line not ready are held, or any key to a keeper whose count passes 1,024, place 1,024"
 pub data KeyRefuses (k : Keeper) (c : ℕ) : ℕ → ℕ → Type 0 where
@@ -210,6 +219,28 @@ listing-comes r old =
 
 pub list-list : (r old : List ℕ) (n p : ℕ) → listing r old ≡ bad n p → ListRefuses r old n p
 list-list r old n p e = comes-bad (ListRefuses r old) (Listed r) (listing r old) n p (listing-comes r old) e
+
+-- "no (with 0)", or 1 and a position among at most 4,096 arguments
+abbrev pub Located : ℕ → Type 0
+Located k = k ≤ 4096
+
+pub locating-comes : (r : List ℕ) (n : ℕ) (w : List ℕ) → Comes (LocateRefuses r n w) Located (locating r n w)
+unfolding locating
+locating-comes r n w =
+    bind-comes (LocateRefuses r n w) (λ c. recordOf r ≡ ok c) Located (recordOf r) _
+    (comes-self (LocateRefuses r n w) (λ c. wellFormed c ≡ true) (recordOf r) (record-comes (LocateRefuses r n w) r notWellFormed))
+    (λ c x.
+    let b : Base = placeBase (placeOf c n) in
+    let v : List Element = placeValue (placeOf c n) in
+    guard-comes (LocateRefuses r n w) Located (not (isNil v)) 26 n _
+    (λ y. noSuchPlace x (not-false (isNil v) y))
+    (λ y.
+    guard-comes (LocateRefuses r n w) Located (isGiven b w) 27 0 (λ _. ok (located v (argumentOf w)))
+    (λ z. wrongArgument x (not-true (isNil v) y) (λ g. false≢true (sym z ∙ given-back b w g)))
+    (λ z. located-most b v (argumentOf w) (value-fine c n ((record-is r c x) .well)))))
+
+pub locate-list : (r : List ℕ) (n : ℕ) (w : List ℕ) (nr p : ℕ) → locating r n w ≡ bad nr p → LocateRefuses r n w nr p
+locate-list r n w nr p e = comes-bad (LocateRefuses r n w) Located (locating r n w) nr p (locating-comes r n w) e
 
 -- ---- a key
 

@@ -24,6 +24,7 @@ pub mod SoleOrder
 pub mod DecodeEncode
 pub mod Progression
 pub mod DirectIsList
+pub mod FirstPosition
 pub mod PiecesAreOrders
 pub mod Fitted
 pub mod Lines
@@ -35,6 +36,7 @@ pub mod RefusalPlaces
 pub mod FromTheList
 pub mod OrderFits
 pub mod EncodeDecode
+pub mod LocateCall
 pub mod CountIsField
 pub mod TextBound
 pub mod RecordBound

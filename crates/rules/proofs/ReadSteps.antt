@@ -65,7 +65,7 @@ radix-back rH = refl
 radix-back rO = refl
 radix-back rB = refl
 
-same-radix-is : (r s : Radix) → sameRadix r s ≡ true → r ≡ s
+pub same-radix-is : (r s : Radix) → sameRadix r s ≡ true → r ≡ s
 same-radix-is r s h = let e : size r ≡ size s = eqb-true (size r) (size s) h in cc (radix-back r, radix-back s)
 
 -- ---- a numeral, prefix apart: digits, digits with a full stop, keyed digits

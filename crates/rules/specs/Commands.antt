@@ -41,6 +41,10 @@ lastUnit (range l r lo up inc) = num r 0 lo
 abbrev pub placeBase : Place → Base
 placeBase (place b nm v) = b
 
+-- the elements of its value: none where it is omitted
+abbrev pub placeValue : Place → List Element
+placeValue (place b nm v) = v
+
 -- the pieces of a name
 abbrev pub Name : Type 0
 Name = List (List ℕ)

@@ -1,7 +1,7 @@
 // Documents 01 and 02 as definitions (specs/) and what is proved of them (proofs/). The types that the calls answer with, the numbers of the
 // refusals and the limits are the only code.
 
-// What a call answers: the bytes written (for count: the number of orders), or the refusal's number and its place.
+// What a call answers: the bytes written (for count the number of orders, for member 0 or 1 and the position), or the refusal's number and its place.
 pub enum Answer {
     Done(u32),
     Refused(u8, u32),
@@ -49,6 +49,10 @@ pub const NO_SUCH_ORDER: u8 = 19;
 pub const NO_KEY: u8 = 20;
 // A name that stands already in its block.
 pub const NAME_TWICE: u8 = 21;
+// A place that there is not, or that is omitted.
+pub const NO_SUCH_PLACE: u8 = 26;
+// An argument that could not stand in its place.
+pub const WRONG_ARGUMENT: u8 = 27;
 
 // The limits, as `Refusals` has them. Base letters of a list.
 pub const MOST_LETTERS: usize = 32;

@@ -1,22 +1,25 @@
 -- Each demand has its proof: the theorems of `rules` and `grammar` under the demands' names.
 use Prim.Native.Nat.{_≤_}
-use mathlib.Core.Path.{refl, sym, ap, _∙_, subst}
+use mathlib.Core.Path.{_≡_, refl, sym, ap, ap₂, _∙_, subst}
+use mathlib.Core.Bool.{true}
 use mathlib.Core.List.{map}
 use native.Mathlib.Nat.{le-trans}
 use lib.ListN.{length}
-use Rattle.rules.proofs.AnswersFit.{reading-most, printing-most, ordering-most, counting-most, listing-most, pressing-most}
-use Rattle.rules.proofs.CallRows.{reads-are, prints-are, orders-are, counts-are, lists-are}
+use Rattle.rules.proofs.AnswersFit.{reading-most, printing-most, ordering-most, counting-most, listing-most, locating-few, locating-most, pressing-most}
+use Rattle.rules.proofs.CallRows.{reads-are, prints-are, orders-are, counts-are, lists-are, members-are}
 use Rattle.rules.proofs.Capitals.{capitals}
 use Rattle.rules.proofs.CountIsField.{answers-field, field-length, begins-with, other-number, without-field}
 use Rattle.rules.proofs.DecodeEncode.{decode-encode}
 use Rattle.rules.proofs.DirectIsList.{count-is, direct-is}
 use Rattle.rules.proofs.EncodeDecode.{record-is, record-of, record-refused}
-use Rattle.rules.proofs.FromTheList.{reader-list, printer-list, order-list, count-list, list-list, key-list}
+use Rattle.rules.proofs.FirstPosition.{argument-is, argument-refl, is-nowhere, nowhere-is, first-is, is-first, first-position, position-below}
+use Rattle.rules.proofs.FromTheList.{reader-list, printer-list, order-list, count-list, list-list, locate-list, key-list}
 use Rattle.rules.proofs.KeeperIsList.{after-keys, answers-keys, fresh-keys}
 use Rattle.rules.proofs.KeptLines.{ready-last, accepted-typed}
 use Rattle.rules.proofs.KeyRows.{runs-are, full-line, keys-are}
 use Rattle.rules.proofs.Lines.{lines, example-is, at-limits}
 use Rattle.rules.proofs.ListBound.{piece-small}
+use Rattle.rules.proofs.LocateCall.{could-stand, place-at, no-place-at, not-found, no-place, no-argument, found, found-first, first-found, found-nowhere, nowhere-found}
 use Rattle.rules.proofs.NamesDiffer.{names-differ}
 use Rattle.rules.proofs.NeverLonger.{never-longer}
 use Rattle.rules.proofs.OrderFits.{order-fits}
@@ -31,12 +34,14 @@ use Rattle.rules.proofs.SoleOrder.{order-sole}
 use Rattle.rules.proofs.Tables.{classes-are, ranges-are, capitals-are, digits-are, keyed-are, letters-are, letters-only, words-are, units-are, units-listed, separators-are, tags-are, refusal-numbers, limits-are}
 use Rattle.rules.proofs.WellFormedIsReadable.{well-formed-is-readable}
 use Rattle.rules.specs.Refusals.{notWellFormed}
+use Rattle.rules.specs.Commands.{single}
 use Rattle.rules.specs.Reading.{read}
 use Rattle.rules.specs.Records.{encode}
 use Rattle.rules.specs.Orders.{orders, orderAt}
+use Rattle.rules.specs.Positions.{writtenOut, isArgument}
 use Rattle.rules.specs.Keeping.{held, keeperAfter}
 use Rattle.grammar.proofs.Exact.{sound, complete, unique, refused}
-use Rattle.theorems.specs.Demands.{Twelve, Example84, FromTheList, AnswersFit, Decided, CountDecided, KeyDecided, Exact, Unique, Refused, ReadSound, NamesDiffer, Capitals, WellFormedIsReadable, RoundTrip, NeverLonger, DecodeEncode, EncodeDecode, RecordBound, DirectIsList, CountIsLength, CountIsField, OrderCarriesOne, FieldIsAsked, Past, OrderWellFormed, OrderFits, SoleOrder, PiecesAreOrders, PiecesSplitOnce, ListThenOrder, ListRefused, Accepts, ReadWithoutRoom, RefusedForRoomAlone, PrintsGivenRoom, PrintWithoutRoom, PrintThenRead, ReadThenPrint, OrdersGivenRoom, OrdersAreListed, SoleOrderOnBytes, KeeperIsList, FreshKeeper, ReadyLine, AcceptedIsTyped, ReadyLast, ClassesOfBytes, RangesOfBytes, CapitalLetters, DigitsOfBases, KeyedDigits, BaseLetters, WordsByRule, UnitsOfACommand, SeparatorTexts, TableOfTags, RefusalNumbers, Limits, CellsOfRefusals, CallRows, KeyRows}
+use Rattle.theorems.specs.Demands.{Twelve, Example84, FromTheList, AnswersFit, Decided, CountDecided, LocateDecided, KeyDecided, Exact, Unique, Refused, ReadSound, NamesDiffer, Capitals, WellFormedIsReadable, RoundTrip, NeverLonger, DecodeEncode, EncodeDecode, RecordBound, DirectIsList, CountIsLength, CountIsField, OrderCarriesOne, FieldIsAsked, Past, OrderWellFormed, OrderFits, SoleOrder, PiecesAreOrders, PiecesSplitOnce, ListThenOrder, ListRefused, PlacesFromZero, SameFields, CouldStand, PositionIsFirstIndex, FirstPosition, PositionBelow, LocateAnswers, LocateFirst, LocateRefused, Accepts, ReadWithoutRoom, RefusedForRoomAlone, PrintsGivenRoom, PrintWithoutRoom, PrintThenRead, ReadThenPrint, OrdersGivenRoom, OrdersAreListed, SoleOrderOnBytes, KeeperIsList, FreshKeeper, ReadyLine, AcceptedIsTyped, ReadyLast, ClassesOfBytes, RangesOfBytes, CapitalLetters, DigitsOfBases, KeyedDigits, BaseLetters, WordsByRule, UnitsOfACommand, SeparatorTexts, TableOfTags, RefusalNumbers, Limits, CellsOfRefusals, CallRows, KeyRows}
 use Rattle.theorems.proofs.Calls
 
 twelve-lines : Twelve
@@ -46,16 +51,19 @@ example-84 : Example84
 example-84 = example-is
 
 from-the-list : FromTheList
-from-the-list = (reader-list, printer-list, order-list, count-list, list-list, key-list)
+from-the-list = (reader-list, printer-list, order-list, count-list, list-list, locate-list, key-list)
 
 answers-fit : AnswersFit
-answers-fit = (reading-most, printing-most, ordering-most, counting-most, listing-most, pressing-most)
+answers-fit = (reading-most, printing-most, ordering-most, counting-most, listing-most, locating-few, locating-most, pressing-most)
 
 decided : Decided
 decided result old a b new also p q = (p .answers ∙ sym (q .answers), p .holds ∙ sym (q .holds))
 
 count-decided : CountDecided
 count-decided r a b p q = p ∙ sym q
+
+locate-decided : LocateDecided
+locate-decided r n w a b p q = p ∙ sym q
 
 key-decided : KeyDecided
 key-decided k c a b p q = p ∙ sym q
@@ -147,6 +155,50 @@ list-refused : ListRefused
 list-refused r old =
     (λ none. not-listed r old notWellFormed 0 (record-refused r none), λ c h short. list-no-room r old c h short, λ c h room. listed r old c h room)
 
+places-from-zero : PlacesFromZero
+places-from-zero code bs = (place-at code bs, no-place-at code bs)
+
+same-fields : SameFields
+same-fields l m u v = (
+  λ h. let q : (m ≡ l) × (v ≡ u) = argument-is l m u v h in ap₂ (λ a x. single a x) (q .0) (q .1),
+  λ h. subst (λ e. isArgument l u e ≡ true) (sym h) (argument-refl l u),
+)
+
+stands-alone : CouldStand
+stands-alone = could-stand
+
+position-is-first-index : PositionIsFirstIndex
+position-is-first-index = first-position
+
+first-both-ways : FirstPosition
+first-both-ways b v l u h =
+    let t = isArgument l u in
+    let e = first-position b v l u h in (
+      λ k. (λ q. is-first t (writtenOut v) k (sym e ∙ q), λ f. e ∙ first-is t (writtenOut v) k f),
+      λ q. is-nowhere t (writtenOut v) (sym e ∙ q),
+      λ f. e ∙ nowhere-is t (writtenOut v) f,
+    )
+
+position-is-below : PositionBelow
+position-is-below = position-below
+
+locate-answers : LocateAnswers
+locate-answers r c n l u h z s = found r n c h z l u s
+
+locate-first : LocateFirst
+locate-first r c n l u h z s = (
+  λ k. (found-first r n c h z l u s k, first-found r n c h z l u s k),
+  found-nowhere r n c h z l u s,
+  nowhere-found r n c h z l u s,
+)
+
+locate-refused : LocateRefused
+locate-refused r n w = (
+  λ none. not-found r n w notWellFormed 0 (record-refused r none),
+  λ c h z. no-place r n c h w z,
+  λ c h z none. no-argument r n c h z w (λ g. none (g .lead) (g .last) (g .could) (g .bytes)),
+)
+
 accepted : Accepts
 accepted = Calls.accepts
 
@@ -233,7 +285,7 @@ cells-of-refusals : CellsOfRefusals
 cells-of-refusals = (cells-are, scanned-are)
 
 rows-of-calls : CallRows
-rows-of-calls = (reads-are, prints-are, orders-are, counts-are, lists-are)
+rows-of-calls = (reads-are, prints-are, orders-are, counts-are, lists-are, members-are)
 
 rows-of-keys : KeyRows
 rows-of-keys = (runs-are, full-line, keys-are)

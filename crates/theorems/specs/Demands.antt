@@ -1,35 +1,36 @@
 -- What was asked for, as types: the user's words, and below them the statement. `proofs/Proved` has a term of each, under a name in small letters.
--- First the three demands; then the same over the calls, on bytes; then the line keeper; last the witnesses, tables from the paper for what reader, grammar and printer share.
-use Prim.Native.Nat.{ℕ, _≤_, _<_}
+-- First the three demands; then what is asked of a record; then the same over the calls, on bytes; then the line keeper; last the witnesses, tables from the paper for what reader, grammar and printer share.
+use Prim.Native.Nat.{ℕ, suc, _≤_, _<_}
 use mathlib.Core.Path.{_≡_}
 use mathlib.Core.Bool.{true, false, _&&_, not}
 use mathlib.Core.List.{List, [], _∷_, _++_, map}
-use mathlib.Core.Option.{some}
+use mathlib.Core.Option.{none, some}
 use lib.Dec.{eqb}
 use lib.ListN.{length, getD}
 use Rattle.laws.specs.Keys.{anyOf}
-use Rattle.laws.specs.Lists.{all, concat}
+use Rattle.laws.specs.Lists.{all, isNil, concat}
 use Rattle.rules.specs.declared.Answer.{Answer}
 use Rattle.rules.specs.declared.Keeper.{Keeper}
 use Rattle.rules.specs.declared.Pressed.{Pressed}
-use Rattle.rules.specs.Refusals.{Res, ok, bad, mapR, wrongLetter, tooLong, notPermitted, unclosed, noToken, noEnd, afterEnd, wrongCode, kindDiffers, wrongName, wrongShape, unreadable, tooBig, groupBroken, tooMany, tooManyOrders, noRoom, notWellFormed, noSuchOrder, noKey, nameTwice, mostLetters, mostText, mostWord, mostPrefixed, mostString, moreOfCode, moreOfName, mostBlocks, mostPlaces, mostLeading, mostElements, mostArguments, mostOrders, mostValue, mostFraction}
+use Rattle.rules.specs.Refusals.{Res, ok, bad, mapR, wrongLetter, tooLong, notPermitted, unclosed, noToken, noEnd, afterEnd, wrongCode, kindDiffers, wrongName, wrongShape, unreadable, tooBig, groupBroken, tooMany, tooManyOrders, noRoom, notWellFormed, noSuchOrder, noKey, nameTwice, noSuchPlace, wrongArgument, mostLetters, mostText, mostWord, mostPrefixed, mostString, moreOfCode, moreOfName, mostBlocks, mostPlaces, mostLeading, mostElements, mostArguments, mostOrders, mostValue, mostFraction}
 use Rattle.rules.specs.Characters.{bytes, capital, isLetter, isDigit, isAlnum, isEffector, isPermitted, isWordChar, isSymbolChar}
-use Rattle.rules.specs.Units.{rD, rH, rO, rB, letter, baseOf, radixAt, baseAt, Unit, keyed, isKey, isHeldKey}
-use Rattle.rules.specs.Commands.{Place, Block, block, Command, command, placeName, commandUnits}
+use Rattle.rules.specs.Units.{rD, rH, rO, rB, letter, baseOf, radixAt, baseAt, Base, Unit, keyed, isKey, isHeldKey}
+use Rattle.rules.specs.Commands.{Element, single, Place, Block, block, Command, command, placeBase, placeValue, placeName, allPlaces, commandUnits, valueCount}
 use Rattle.rules.specs.Reading.{read, readAny}
 use Rattle.rules.specs.Records.{fourBytes, fieldsOf, bytesOf, encode, decode, countIn, bases}
-use Rattle.rules.specs.WellFormed.{wellFormed, recordOf}
+use Rattle.rules.specs.WellFormed.{wfValue, wellFormed, recordOf}
 use Rattle.rules.specs.Printing.{print}
 use Rattle.rules.specs.Orders.{orders, orderAt, count}
 use Rattle.rules.specs.Listing.{joined, listBytes, piecesOf}
-use Rattle.rules.specs.Answers.{reading, printing, ordering, counting, listing, answered, valueOf, Promise, Counts}
+use Rattle.rules.specs.Positions.{placeOf, unitBytes, couldStand, positionOf, answerOf, writtenOut, isArgument, firstIn, IsFirst, IsNowhere}
+use Rattle.rules.specs.Answers.{reading, printing, ordering, counting, listing, locating, answered, valueOf, Promise, Counts, Locates}
 use Rattle.rules.specs.Keeping.{ready, press, Possible, held, pressing, afterKey, lineAfter, lineAnswers, keeperAfter, keeperAnswers}
 use Rattle.rules.proofs.Lines.{found, stated, twelve, example, example77, answer, due, limits, tally, expected}
-use Rattle.rules.proofs.FromTheList.{ReaderRefuses, PrinterRefuses, OrderRefuses, CountRefuses, ListRefuses, KeyRefuses}
+use Rattle.rules.proofs.FromTheList.{ReaderRefuses, PrinterRefuses, OrderRefuses, CountRefuses, ListRefuses, LocateRefuses, KeyRefuses}
 use Rattle.rules.proofs.KeptLines.{lastEnds, Typed}
 use Rattle.rules.proofs.KeyRows.{runFound, runStated, runs, most, full, keyFound, keyStated, keys}
 use Rattle.rules.proofs.RefusalRows.{cells, scanned}
-use Rattle.rules.proofs.CallRows.{readFound, readStated, reads, printFound, printStated, prints, orderFound, orderStated, ordersAsked, countFound, countStated, countsAsked, listFound, listStated, listsAsked}
+use Rattle.rules.proofs.CallRows.{readFound, readStated, reads, printFound, printStated, prints, orderFound, orderStated, ordersAsked, countFound, countStated, countsAsked, listFound, listStated, listsAsked, memberFound, memberStated, membersAsked}
 use Rattle.rules.proofs.Tables.{opens, tested, printed, classes, members, ranges, baseFound, baseStated, baseRows, five, isBase, wordFound, wordStated, wordRows, unitFound, unitStated, unitRows, unitsRead, unitsDue, sepFound, sepStated, sepRows, whole, wholeRecord}
 use Rattle.grammar.specs.Grammar.{Follows}
 
@@ -53,9 +54,10 @@ FromTheList =
     × ((r : List ℕ) (k : ℕ) (old : List ℕ) (n p : ℕ) → ordering r k old ≡ bad n p → OrderRefuses r k old n p)
     × ((r : List ℕ) (n p : ℕ) → counting r ≡ bad n p → CountRefuses n p)
     × ((r old : List ℕ) (n p : ℕ) → listing r old ≡ bad n p → ListRefuses r old n p)
+    × ((r : List ℕ) (n : ℕ) (w : List ℕ) (nr p : ℕ) → locating r n w ≡ bad nr p → LocateRefuses r n w nr p)
     × ((k : Keeper) (c n p : ℕ) → pressing k c ≡ bad n p → KeyRefuses k c n p)
 
--- bytes written, number of orders or place: every value fits the 32 bits that the answer has for it
+-- bytes written, number of orders, position or place: every value fits the 32 bits that the answer has for it; M-107's 26 gives back the place number that was asked
 abbrev pub AnswersFit : Type 0
 AnswersFit =
     ((text letters old : List ℕ) → valueOf (answered (mapR length (reading text letters old))) ≤ 65536)
@@ -63,6 +65,8 @@ AnswersFit =
     × ((r : List ℕ) (k : ℕ) (old : List ℕ) → valueOf (answered (mapR length (ordering r k old))) ≤ 65536)
     × ((r : List ℕ) → valueOf (answered (counting r)) ≤ 65536)
     × ((r old : List ℕ) → valueOf (answered (mapR length (listing r old))) < 4294967296)
+    × ((r : List ℕ) (n : ℕ) (w : List ℕ) (k : ℕ) → locating r n w ≡ ok k → k ≤ 4096)
+    × ((r : List ℕ) (n : ℕ) (w : List ℕ) → n < 4294967296 → valueOf (answered (locating r n w)) < 4294967296)
     × ((k : Keeper) (c : ℕ) → valueOf (afterKey k c .answer) ≤ 65536)
 
 -- "Any two results satisfying it are proved equal"
@@ -73,6 +77,9 @@ Decided =
 
 abbrev pub CountDecided : Type 0
 CountDecided = (r : List ℕ) (a b : Answer) → Counts r a → Counts r b → a ≡ b
+
+abbrev pub LocateDecided : Type 0
+LocateDecided = (r : List ℕ) (n : ℕ) (w : List ℕ) (a b : Answer) → Locates r n w a → Locates r n w b → a ≡ b
 
 abbrev pub KeyDecided : Type 0
 KeyDecided = (k : Keeper) (c : ℕ) (a b : Pressed) → a ≡ afterKey k c → b ≡ afterKey k c → a ≡ b
@@ -215,6 +222,73 @@ ListRefused =
     → (((c : Command) → recordOf r ≡ ok c → ⊥) → listing r old ≡ bad notWellFormed 0)
     × ((c : Command) → recordOf r ≡ ok c → length old < length (listBytes c) → listing r old ≡ bad noRoom (length (listBytes c)))
     × ((c : Command) → recordOf r ≡ ok c → length (listBytes c) ≤ length old → listing r old ≡ ok (listBytes c))
+
+-- ======== M-107: is this amplifier in it?
+
+-- "Places .. count from 0", through all blocks: a place with n places before it has the number n, and from their number on there is none
+abbrev pub PlacesFromZero : Type 0
+PlacesFromZero =
+    (code : List (List ℕ)) (bs : List Block)
+    → ((before : List Place) (p : Place) (behind : List Place) → allPlaces bs ≡ before ++ (p ∷ behind) → placeOf (command code bs) (length before) ≡ p)
+    × ((n : ℕ) → length (allPlaces bs) ≤ n → placeValue (placeOf (command code bs) n) ≡ [])
+
+-- "Units are equal when their fields are.": the fields' bytes are equal exactly where the arguments are
+abbrev pub SameFields : Type 0
+SameFields =
+    (l m : List Unit) (u v : Unit)
+    → (isArgument l u (single m v) ≡ true → single m v ≡ single l u) × (single m v ≡ single l u → isArgument l u (single m v) ≡ true)
+
+-- "that could stand under that place's base": a value of this argument alone is well formed there
+abbrev pub CouldStand : Type 0
+CouldStand =
+    (b : Base) (l : List Unit) (u : Unit)
+    → (couldStand b l u ≡ true → wfValue b (single l u ∷ []) ≡ true) × (wfValue b (single l u ∷ []) ≡ true → couldStand b l u ≡ true)
+
+-- "the first position among that place's arguments, all written out": what is worked out directly is the first index in the list
+abbrev pub PositionIsFirstIndex : Type 0
+PositionIsFirstIndex =
+    (b : Base) (v : List Element) (l : List Unit) (u : Unit) → wfValue b v ≡ true → positionOf v l u ≡ firstIn (isArgument l u) (writtenOut v)
+
+-- that is: k exactly where the argument's unit fields stand at index k and at none before; none exactly where they stand at no index
+abbrev pub FirstPosition : Type 0
+FirstPosition =
+    (b : Base) (v : List Element) (l : List Unit) (u : Unit) → wfValue b v ≡ true
+    → ((k : ℕ) → (positionOf v l u ≡ some k → IsFirst (isArgument l u) (writtenOut v) k)
+    × (IsFirst (isArgument l u) (writtenOut v) k → positionOf v l u ≡ some k))
+    × (positionOf v l u ≡ none → IsNowhere (isArgument l u) (writtenOut v))
+    × (IsNowhere (isArgument l u) (writtenOut v) → positionOf v l u ≡ none)
+
+-- a position is below the number of the place's arguments, and these are at most 4,096
+abbrev pub PositionBelow : Type 0
+PositionBelow =
+    (b : Base) (v : List Element) (l : List Unit) (u : Unit) (k : ℕ) → wfValue b v ≡ true → positionOf v l u ≡ some k
+    → (k < valueCount v) × (valueCount v ≤ mostArguments)
+
+-- "Given a record, a place number and an argument as unit fields, say no (with 0) or yes with the first position": the call, by the list of a place that is not omitted
+abbrev pub LocateAnswers : Type 0
+LocateAnswers =
+    (r : List ℕ) (c : Command) (n : ℕ) (l : List Unit) (u : Unit) → recordOf r ≡ ok c → isNil (placeValue (placeOf c n)) ≡ false
+    → couldStand (placeBase (placeOf c n)) l u ≡ true
+    → locating r n (unitBytes l u) ≡ ok (answerOf (firstIn (isArgument l u) (writtenOut (placeValue (placeOf c n)))))
+
+-- it answers 1 and k exactly where k is the first index of the argument in that list, and 0 exactly where the argument is at none
+abbrev pub LocateFirst : Type 0
+LocateFirst =
+    (r : List ℕ) (c : Command) (n : ℕ) (l : List Unit) (u : Unit) → recordOf r ≡ ok c → isNil (placeValue (placeOf c n)) ≡ false
+    → couldStand (placeBase (placeOf c n)) l u ≡ true
+    → ((k : ℕ) → (locating r n (unitBytes l u) ≡ ok (suc k) → IsFirst (isArgument l u) (writtenOut (placeValue (placeOf c n))) k)
+    × (IsFirst (isArgument l u) (writtenOut (placeValue (placeOf c n))) k → locating r n (unitBytes l u) ≡ ok (suc k)))
+    × (locating r n (unitBytes l u) ≡ ok 0 → IsNowhere (isArgument l u) (writtenOut (placeValue (placeOf c n))))
+    × (IsNowhere (isArgument l u) (writtenOut (placeValue (placeOf c n))) → locating r n (unitBytes l u) ≡ ok 0)
+
+-- "Refusals in order: 18; 26 no such place or an omitted one, place the asked number; 27 argument not 1 to 4 unit fields that could stand under that place's base, place 0."
+abbrev pub LocateRefused : Type 0
+LocateRefused =
+    (r : List ℕ) (n : ℕ) (w : List ℕ)
+    → (((c : Command) → recordOf r ≡ ok c → ⊥) → locating r n w ≡ bad notWellFormed 0)
+    × ((c : Command) → recordOf r ≡ ok c → isNil (placeValue (placeOf c n)) ≡ true → locating r n w ≡ bad noSuchPlace n)
+    × ((c : Command) → recordOf r ≡ ok c → isNil (placeValue (placeOf c n)) ≡ false
+    → ((l : List Unit) (u : Unit) → couldStand (placeBase (placeOf c n)) l u ≡ true → unitBytes l u ≡ w → ⊥) → locating r n w ≡ bad wrongArgument 0)
 
 -- ======== the same of the calls, on bytes
 
@@ -387,8 +461,8 @@ TableOfTags =
 abbrev pub RefusalNumbers : Type 0
 RefusalNumbers =
     (wrongLetter ∷ tooLong ∷ notPermitted ∷ unclosed ∷ noToken ∷ noEnd ∷ afterEnd ∷ wrongCode ∷ kindDiffers ∷ wrongName ∷ wrongShape ∷ unreadable ∷ tooBig
-    ∷ groupBroken ∷ tooMany ∷ tooManyOrders ∷ noRoom ∷ notWellFormed ∷ noSuchOrder ∷ noKey ∷ nameTwice ∷ [])
-    ≡ 1 ∷ 2 ∷ 3 ∷ 4 ∷ 5 ∷ 6 ∷ 7 ∷ 8 ∷ 9 ∷ 10 ∷ 11 ∷ 12 ∷ 13 ∷ 14 ∷ 15 ∷ 16 ∷ 17 ∷ 18 ∷ 19 ∷ 20 ∷ 21 ∷ []
+    ∷ groupBroken ∷ tooMany ∷ tooManyOrders ∷ noRoom ∷ notWellFormed ∷ noSuchOrder ∷ noKey ∷ nameTwice ∷ noSuchPlace ∷ wrongArgument ∷ [])
+    ≡ 1 ∷ 2 ∷ 3 ∷ 4 ∷ 5 ∷ 6 ∷ 7 ∷ 8 ∷ 9 ∷ 10 ∷ 11 ∷ 12 ∷ 13 ∷ 14 ∷ 15 ∷ 16 ∷ 17 ∷ 18 ∷ 19 ∷ 20 ∷ 21 ∷ 26 ∷ 27 ∷ []
 
 -- the limits by name, and for each the last line that is read and the first that is refused
 abbrev pub Limits : Type 0
@@ -401,12 +475,12 @@ Limits =
 abbrev pub CellsOfRefusals : Type 0
 CellsOfRefusals = (map answer cells ≡ map due cells) × (map tally scanned ≡ map expected scanned)
 
--- the calls with their lent buffer: number, value and every byte of the buffer
+-- the calls: number and value, and every byte of a lent buffer
 abbrev pub CallRows : Type 0
 CallRows =
     (map readFound reads ≡ map readStated reads) × (map printFound prints ≡ map printStated prints)
     × (map orderFound ordersAsked ≡ map orderStated ordersAsked) × (map countFound countsAsked ≡ map countStated countsAsked)
-    × (map listFound listsAsked ≡ map listStated listsAsked)
+    × (map listFound listsAsked ≡ map listStated listsAsked) × (map memberFound membersAsked ≡ map memberStated membersAsked)
 
 -- M-100: runs of keys, keys to a full line, and one key to a keeper: number, value and every byte of it
 abbrev pub KeyRows : Type 0

@@ -1,8 +1,10 @@
 // Runs the lines of standard input through the library, and writes what came of each. A line is
 // `BASES|COMMAND`, `@BASES|COMMAND` where the orders are asked for, `*BASES|COMMAND` where the whole list
 // is, `#RECORD` with the record in hexadecimal, `=RECORD` where its whole list is asked for, or `!KEYS` with
-// the keys in hexadecimal.
+// the keys in hexadecimal; `?PLACE|ARGUMENT|BASES|COMMAND` and `?PLACE|ARGUMENT|#RECORD` ask whether the
+// argument, its unit fields in hexadecimal, stands in the place.
 mod keys;
+mod questions;
 
 use console_figures::Decoded;
 use console_figures::front;
@@ -67,6 +69,7 @@ fn run_line(line: &[u8]) {
         b'@' => run_command(behind(line, 0), Asked::Orders),
         b'*' => run_command(behind(line, 0), Asked::List),
         b'!' => keys::run(behind(line, 0)),
+        b'?' => questions::run(behind(line, 0)),
         _ => run_command(line, Asked::Record),
     }
     io::write_all(STDOUT_FILENO, b"\n");

@@ -9,6 +9,8 @@
 //! The rows of `list` and `orders` give all orders of a command: by one call of `list`, and by a
 //! call of `order` for each. What they take is told for one order.
 //!
+//! The rows of `member` ask for the last argument of a command's first place; k is its position.
+//!
 //! `bench rows` names the rows; `bench run ROW SIDE CALLS` makes calls of one side of a row and
 //! nothing else, for the script `instructions`.
 
@@ -21,12 +23,14 @@ use std::time::{Duration, Instant};
 const BATCH: Duration = Duration::from_micros(400);
 
 /// The commands that are timed, each under the name that its rows have.
-const COMMANDS: [(&str, &str); 6] = [
+const COMMANDS: [(&str, &str); 8] = [
     ("short", SHORT),
     ("middle", MIDDLE),
     ("long", LONG),
     ("32 names", NAMES),
     ("small letters", SMALL_LETTERS),
+    ("few terms", FEW_TERMS),
+    ("many terms", MANY_TERMS),
     ("wide", WIDE),
 ];
 
@@ -59,6 +63,19 @@ const SMALL_LETTERS: &str = concat!(
     "CHANGE-LINE:DN=k'21#ab&k'1d#*,CAT=h'1f&h'2a&h'ff,ID=h'cafe-h'c0de",
     ":h'9&&h'ff++h'1e,k'a1b2c3d4,h'c0ffee;",
 );
+
+/// A range of 4 terms and one of 1,334: of these commands nothing but the question for an argument
+/// is timed.
+const FEW_TERMS: &str = "A:7-1&&-4;";
+const MANY_TERMS: &str = "A:7-1&&-4000++3;";
+
+/// The commands of which an argument is asked for, the last of the first place: its two numerals.
+const ASKED: [(&str, [u32; 2]); 4] = [
+    (SHORT, [7, 3]),
+    (LONG, [9, 7]),
+    (FEW_TERMS, [7, 4]),
+    (MANY_TERMS, [7, 4000]),
+];
 
 /// Few values with many orders: its orders alone are timed.
 const WIDE: &str = "A:0&&4094,0&&15;";
@@ -134,9 +151,15 @@ fn table(batches: usize) {
         against(&format!("last k of {WIDE} against k = 0"), last, first);
     }
     for pair in times.windows(2) {
-        if let [(command, "list", list), (_, "orders", orders)] = *pair {
-            let what = format!("an order of `{command}` by itself against one in the list");
-            against(&what, orders, list);
+        match *pair {
+            [(command, "list", list), (_, "orders", orders)] => {
+                let what = format!("an order of `{command}` by itself against one in the list");
+                against(&what, orders, list);
+            }
+            [("few terms", _, few), ("many terms", _, many)] => {
+                against("the last of many terms against that of few", many, few);
+            }
+            _ => (),
         }
     }
 }
@@ -181,14 +204,20 @@ struct Command {
 }
 
 impl Command {
-    /// Its rows: every call, all orders if they are timed, the first order and the last if that is
-    /// another; of the wide one the orders alone.
+    /// Its rows: every call, an argument and all orders if they are timed, the first order and the
+    /// last if that is another; of the wide one the orders alone, of the ranges the argument alone.
     fn rows(&self) -> Vec<Row<'_>> {
         let orders = model::count(&self.record).unwrap_or(0);
         let last = u64::from(orders) - 1;
+        let is_range = [FEW_TERMS, MANY_TERMS].contains(&self.text);
         let mut rows = Vec::new();
-        if self.text != WIDE {
+        if !is_range && self.text != WIDE {
             rows.extend([read(self), print(self), count(self)]);
+        }
+        let asked = ASKED.iter().find(|asked| asked.0 == self.text);
+        rows.extend(asked.map(|(_, numerals)| member(self, numerals)));
+        if is_range {
+            return rows;
         }
         if LISTED.contains(&self.text) {
             rows.extend([list(self, orders), all_orders(self, orders)]);
@@ -316,6 +345,32 @@ fn count(command: &Command) -> Row<'_> {
         orders: None,
         library: Box::new(move || mml::count(black_box(record)).unwrap_or(0)),
         model: Box::new(move || model::count(black_box(record)).unwrap_or(0)),
+    }
+}
+
+/// The argument of these numerals in the first place. The value that is given is 1 + the position.
+fn member<'c>(command: &'c Command, numerals: &[u32]) -> Row<'c> {
+    let record = &command.record[..];
+    let unit = |value: &u32| [&[7, 0, 6, b'D', 0][..], &value.to_be_bytes()].concat();
+    let argument: Vec<u8> = numerals.iter().flat_map(unit).collect();
+    let other = argument.clone();
+    let position = model::member(record, 0, &argument).expect("the question is right");
+    let value = |position: Option<u32>| position.map_or(0, |position| position + 1);
+    Row {
+        command: command.name,
+        call: "member",
+        text: command.text.len(),
+        record: Some(record.len()),
+        k: position.map(u64::from),
+        orders: None,
+        library: Box::new(move || {
+            let answer = mml::member(black_box(record), 0, black_box(&argument));
+            answer.map_or(0, value)
+        }),
+        model: Box::new(move || {
+            let answer = model::member(black_box(record), 0, black_box(&other));
+            answer.map_or(0, value)
+        }),
     }
 }
 

@@ -20,6 +20,8 @@ pub enum Call<'i> {
     Count(&'i [u8]),
     /// A record.
     List(&'i [u8]),
+    /// A record, the number of a place, and an argument.
+    Member(&'i [u8], u32, &'i [u8]),
     /// A keeper, which is what the buffer holds before, and a key.
     Key(&'i [u8], u8),
 }
@@ -65,7 +67,7 @@ impl Call<'_> {
             return tell(&format!("the buffers differ at {at}"));
         }
         let written = match (self, answer) {
-            (Call::Count(_), _) | (_, Err(_)) => 0,
+            (Call::Count(_) | Call::Member(..), _) | (_, Err(_)) => 0,
             (Call::Key(..), Ok(_)) => room,
             (_, Ok(length)) => length as usize,
         };
@@ -87,6 +89,7 @@ impl Call<'_> {
             | Call::Order(record, _)
             | Call::Count(record)
             | Call::List(record) => (record, &[]),
+            Call::Member(record, _, argument) => (record, argument),
             Call::Key(..) => (&[], &[]),
         }
     }
@@ -100,6 +103,7 @@ impl Call<'_> {
             Call::Order(_, k) => Call::Order(first, *k),
             Call::Count(_) => Call::Count(first),
             Call::List(_) => Call::List(first),
+            Call::Member(_, place, _) => Call::Member(first, *place, second),
             Call::Key(_, key) => Call::Key(first, *key),
         }
     }
@@ -107,12 +111,16 @@ impl Call<'_> {
     /// Calls the model.
     pub fn model(&self, out: &mut [u8]) -> Answer {
         let length = |length| length as u32;
+        let found = |position: Option<u32>| position.map_or(0, |position| position + 1);
         match self {
             Call::Read(text, bases) => model::read(text, bases, out).map(length),
             Call::Print(record) => model::print(record, out).map(length),
             Call::Order(record, k) => model::order(record, *k, out).map(length),
             Call::Count(record) => model::count(record),
             Call::List(record) => model::list(record, out).map(length),
+            Call::Member(record, place, argument) => {
+                model::member(record, *place, argument).map(found)
+            }
             Call::Key(_, key) => model_key(out, *key).map(u32::from),
         }
         .map_err(|refusal| (u32::from(refusal.number), refusal.place))
@@ -139,11 +147,14 @@ impl Call<'_> {
             Call::Order(record, k) => ("order", format!("k        {k}\n"), record),
             Call::Count(record) => ("count", String::new(), record),
             Call::List(record) => ("list", String::new(), record),
+            Call::Member(record, place, _) => ("member", format!("place    {place}\n"), record),
             Call::Key(keeper, key) => ("key", format!("key      {key}\n"), keeper),
         };
         let mut shown = format!("call     {name}\n{k}{}", bytes_in_full("input", input));
-        if let Call::Read(_, bases) = self {
-            shown.push_str(&bytes_in_full("bases", bases));
+        match self {
+            Call::Read(_, bases) => shown.push_str(&bytes_in_full("bases", bases)),
+            Call::Member(_, _, one) => shown.push_str(&bytes_in_full("argument", one)),
+            _ => (),
         }
         shown
     }

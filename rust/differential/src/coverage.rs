@@ -3,10 +3,10 @@
 use crate::compare::{Answer, Call};
 
 /// Numbers of answers: 0 for success, and those of the refusals up to the last.
-const NUMBERS: usize = 22;
+const NUMBERS: usize = 28;
 
 /// Each call, and the numbers that it can answer.
-const CALLS: [(&str, &[usize]); 6] = [
+const CALLS: [(&str, &[usize]); 7] = [
     (
         "read",
         &[
@@ -18,6 +18,7 @@ const CALLS: [(&str, &[usize]); 6] = [
     ("count", &[0, 18]),
     ("key", &[0, 20]),
     ("list", &[0, 17, 18]),
+    ("member", &[0, 18, 26, 27]),
 ];
 
 /// Whether a call can answer this number.
@@ -40,6 +41,7 @@ impl Coverage {
             Call::Count(_) => 3,
             Call::Key(..) => 4,
             Call::List(_) => 5,
+            Call::Member(..) => 6,
         };
         let number = answer.err().map_or(0, |(number, _)| number as usize);
         self.0[kind][number] += 1;
@@ -100,6 +102,7 @@ mod tests {
             Call::Count(b""),
             Call::Key(b"", 0),
             Call::List(b""),
+            Call::Member(b"", 0, b""),
         ];
         let mut coverage = Coverage::default();
         for (kind, (_, numbers)) in CALLS.iter().enumerate() {
@@ -116,21 +119,22 @@ mod tests {
 
     #[test]
     fn what_no_call_answered_is_missing() {
-        assert_eq!(Coverage::default().missing().len(), 34);
+        assert_eq!(Coverage::default().missing().len(), 38);
         assert_eq!(all_but((0, 16)), ["read 16"]);
         assert_eq!(all_but((2, 19)), ["order 19"]);
         assert_eq!(all_but((3, 0)), ["count 0"]);
         assert_eq!(all_but((4, 20)), ["key 20"]);
         assert_eq!(all_but((5, 17)), ["list 17"]);
+        assert_eq!(all_but((6, 27)), ["member 27"]);
         assert!(all_but((9, 9)).is_empty());
     }
 
     #[test]
     fn every_refusal_belongs_to_a_call() {
-        for number in 0..NUMBERS as u32 {
+        for number in (0..=21).chain(26..NUMBERS as u32) {
             assert!(is_answer(number));
         }
-        for number in [NUMBERS as u32, u32::MAX] {
+        for number in (22..=25).chain([NUMBERS as u32, u32::MAX]) {
             assert!(!is_answer(number));
         }
     }

@@ -111,12 +111,16 @@ mod direct {
     /// Calls the wrapper; gives the answer as the C interface has it.
     fn linked(call: &Call, out: &mut [u8], turn: usize) -> Result<u64, String> {
         let length = |length| length as u32;
+        let found = |position: Option<u32>| position.map_or(0, |position| position + 1);
         let answer = match call {
             Call::Read(text, bases) => mml::read(text, bases, out).map(length),
             Call::Print(record) => mml::print(record, out).map(length),
             Call::Order(record, k) => mml::order(record, *k, out).map(length),
             Call::Count(record) => mml::count(record),
             Call::List(record) => mml::list(record, out).map(length),
+            Call::Member(record, place, argument) => {
+                mml::member(record, *place, argument).map(found)
+            }
             Call::Key(_, key) => linked_key(*key, out, turn)?.map(u32::from),
         };
         Ok(match answer {
@@ -202,6 +206,7 @@ fn request(call: &Call, out: &[u8]) -> Vec<u8> {
         Call::Count(_) => (3, 0),
         Call::Key(_, key) => (4, u64::from(*key)),
         Call::List(_) => (5, 0),
+        Call::Member(_, place, _) => (6, u64::from(*place)),
     };
     let (first, second) = call.inputs();
     let mut request = vec![number];
@@ -232,7 +237,8 @@ mod tests {
         assert_eq!(answer_of((19 << 32) + 3), Ok(Err((19, 3))));
         assert_eq!(answer_of((20 << 32) + 1024), Ok(Err((20, 1024))));
         assert_eq!(answer_of((21 << 32) + 8), Ok(Err((21, 8))));
-        for number in [22, 256, 256 + 14, 1 << 31] {
+        assert_eq!(answer_of((26 << 32) + 2), Ok(Err((26, 2))));
+        for number in [22, 25, 28, 256, 256 + 14, 1 << 31] {
             assert!(answer_of(number << 32).is_err());
         }
     }

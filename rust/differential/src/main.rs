@@ -5,7 +5,8 @@
 //! all kinds. Each goes through the calls on both
 //! sides, with buffers that are large, just fit, are one byte too short and empty. Other inputs
 //! are runs of keys to a keeper. Answers and all bytes must be alike, a keeper's too. Then the
-//! library alone must keep what its calls promise together: a list's pieces are the orders.
+//! library alone must keep what its calls promise together: a list's pieces are the orders, and an
+//! argument that stands in a place is what the order has there that takes it.
 //! Lists that are long are written now and then; of the others the bytes needed are compared.
 //! The first difference ends the run with the input in full. With `show` each input is
 //! printed before it is tried, for a library that does not return.
@@ -15,8 +16,10 @@
 //! call gave each answer that it can give: success and, all calls together, every refusal; and
 //! unless the inputs that were made had numerals in small letters, read in commands and refused
 //! in records, had records refused for the number of their orders alone, gave lists of each kind,
-//! and showed all that keys do. The same SEED gives the same inputs.
+//! asked for arguments of each kind, and showed all that keys do. The same SEED gives the same
+//! inputs.
 
+mod arguments;
 mod commands;
 mod compare;
 mod coverage;
@@ -25,6 +28,7 @@ mod keys;
 mod library;
 mod lines;
 mod lists;
+mod members;
 mod names;
 mod order_counts;
 mod random;
@@ -37,11 +41,13 @@ use std::env;
 use std::process::ExitCode;
 use std::time::{Duration, Instant};
 
+use arguments::{Place, Question};
 use compare::{Answer, Call, Difference, Outcome};
 use coverage::Coverage;
 use keys::{Keys, READY};
 use library::Library;
 use lists::Lists;
+use members::Members;
 use order_counts::OrderCounts;
 use random::Random;
 use small_letters::SmallLetters;
@@ -67,6 +73,9 @@ const WRONG_ENDS: [u32; 3] = [4, 6, 7];
 
 /// The refusal of a buffer that is too short.
 const BUFFER_TOO_SHORT: u32 = 17;
+
+/// The refusal of a record that is not well formed.
+const NOT_WELL_FORMED: u32 = 18;
 
 /// More than any record takes.
 const ROOM: usize = 65_536;
@@ -150,6 +159,7 @@ struct Run {
     small_letters: SmallLetters,
     order_counts: OrderCounts,
     lists: Lists,
+    members: Members,
     keys: Keys,
     /// Records of accepted commands.
     pool: Vec<Vec<u8>>,
@@ -170,6 +180,7 @@ impl Run {
             small_letters: SmallLetters::default(),
             order_counts: OrderCounts::default(),
             lists: Lists::default(),
+            members: Members::default(),
             keys: Keys::default(),
             pool: vec![vec![12, 0, 4, 0, 0, 0, 1, 1, 0, 1, b'A']],
         }
@@ -190,6 +201,7 @@ impl Run {
             self.small_letters.missing(),
             self.order_counts.missing(),
             self.lists.missing(),
+            self.members.missing(),
             self.keys.missing(),
         ];
         match missing.concat() {
@@ -288,6 +300,7 @@ impl Run {
 
     /// Tries a record with all calls and buffers.
     fn record(&mut self, record: &[u8]) -> Result<(), Difference> {
+        self.members(record)?;
         self.all_rooms(Call::Print(record))?;
         let count = self.all_rooms(Call::Count(record))?.answer;
         let list = self.all_rooms(Call::List(record))?;
@@ -320,6 +333,54 @@ impl Run {
             Ok(_) => self.pieces(record, count, &list.bytes),
             Err(_) => Ok(()),
         }
+    }
+
+    /// Asks for arguments in the places of a record; one question is enough for a record that is
+    /// not well formed.
+    fn members(&mut self, record: &[u8]) -> Result<(), Difference> {
+        let places = arguments::places(record);
+        for question in arguments::questions(&mut self.random, &places) {
+            let call = Call::Member(record, question.place, &question.argument);
+            self.announce(call);
+            let answer = call.compare_on(&mut self.library, &[])?.answer;
+            self.calls += 1;
+            self.answers.note(call, answer);
+            if self.is_made() {
+                self.members.note(&places, &question, answer);
+            }
+            match answer {
+                Err((NOT_WELL_FORMED, _)) => return Ok(()),
+                Ok(found) if found > 0 => self.taken(record, &places, &question, found - 1)?,
+                _ => (),
+            }
+        }
+        Ok(())
+    }
+
+    /// What the library alone must keep of an argument that stands in a place at this position:
+    /// the order that takes it, and of all other places the first argument, has it there.
+    fn taken(
+        &mut self,
+        record: &[u8],
+        places: &[Place],
+        question: &Question,
+        position: u32,
+    ) -> Result<(), Difference> {
+        let place = question.place as usize;
+        let call = Call::Member(record, question.place, &question.argument);
+        let behind: u64 = places[place + 1..].iter().map(Place::choices).product();
+        let k = u64::from(position) * behind;
+        let mut order = vec![0; record.len()];
+        let length = match self.ask(Call::Order(record, k), &mut order)? {
+            Ok(length) => length as usize,
+            Err(_) => return Err(call.alone(&format!("there is no order {k}"))),
+        };
+        let places = arguments::places(&order[..length]);
+        let taken = places.get(place).and_then(|place| place.arguments().next());
+        if taken != Some(&question.argument[..]) {
+            return Err(call.alone(&format!("order {k} has another argument there")));
+        }
+        Ok(())
     }
 
     /// Tries a call with a large buffer, one that just fits, one that is a byte too short, and
@@ -458,6 +519,7 @@ impl Run {
         self.small_letters.show();
         self.order_counts.show();
         self.lists.show();
+        self.members.show();
         self.keys.show();
     }
 }

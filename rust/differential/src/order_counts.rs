@@ -3,9 +3,7 @@
 use crate::compare::{Answer, Call};
 use crate::coverage::{self, Sight};
 use crate::records::{count, fields, join, orders, uncounted, Field, COUNT};
-
-/// The refusal of a record that is not well formed.
-const NOT_WELL_FORMED: u32 = 18;
+use crate::NOT_WELL_FORMED;
 
 /// How often a record was refused for the number of its orders alone.
 #[derive(Default)]

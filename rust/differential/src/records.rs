@@ -256,7 +256,7 @@ fn add_places(random: &mut Random, fields: &mut Vec<Field>) {
 }
 
 /// Makes a unit one of another kind, with a word that bases read in different ways.
-fn retag(random: &mut Random, fields: &mut [Field]) {
+pub fn retag(random: &mut Random, fields: &mut [Field]) {
     let words: [&[u8]; 14] = [
         b"1A", b"CAFE", b"A1", b"10", b"#", b"A#", b"12", b"G", b"0B", b"1+", b"1a", b"cafe",
         b"ab", b"#a",
@@ -272,7 +272,7 @@ fn retag(random: &mut Random, fields: &mut [Field]) {
 }
 
 /// Gives a unit small letters: makes its own small, or makes it a word that has some.
-fn small_letters(random: &mut Random, fields: &mut [Field]) {
+pub fn small_letters(random: &mut Random, fields: &mut [Field]) {
     let units: [(u8, &[u8]); 14] = [
         (8, b"a"),
         (8, b"1d#*"),
@@ -306,7 +306,7 @@ fn any_unit(random: &mut Random, fields: &[Field]) -> Option<usize> {
 }
 
 /// Whether the field is a unit's.
-fn is_unit(field: &Field) -> bool {
+pub fn is_unit(field: &Field) -> bool {
     (7..=11).contains(&field.0)
 }
 
@@ -327,7 +327,7 @@ fn repeat_element(random: &mut Random, fields: &mut Vec<Field>, at: usize) {
 }
 
 /// Changes a content in a way that its tag understands.
-fn change_content(random: &mut Random, field: &mut Field) {
+pub fn change_content(random: &mut Random, field: &mut Field) {
     let content = &mut field.1;
     match field.0 {
         2 => *content = vec![random.pick(b"PNPNPNXp")],
@@ -394,7 +394,7 @@ fn range(random: &mut Random) -> Vec<u8> {
 }
 
 /// Any unit's field.
-fn unit(random: &mut Random) -> Field {
+pub fn unit(random: &mut Random) -> Field {
     let words: [&[u8]; 17] = [
         b"A", b"CAFE", b"G1", b"1A", b"#", b"12", b"*", b"+", b"A+B", b"A++", b"10%", b"", b"E",
         b"a", b"cafe", b"1a", b"#a",

@@ -3,10 +3,11 @@
 //! A [`Keeper`] takes what an operator types, one key at a time, and tells when its line is
 //! ready. [`read`] makes a record of a command's text, [`print`] a command's text of a record,
 //! [`count`] tells how many orders a record has, [`order`] gives order number `k` as a record, and
-//! [`list`] writes all of them, for [`pieces`] to walk over. The library keeps no state: a line is
-//! held by its keeper alone. The calls allocate nothing and may run on any number of threads at
-//! once. A call that refuses writes nothing; a call that succeeds writes the bytes that it answers
-//! at the buffer's start and leaves the rest of the buffer as it was.
+//! [`list`] writes all of them, for [`pieces`] to walk over. [`member`] tells whether a place of a
+//! record has an argument, and where. The library keeps no state: a line is held by its keeper
+//! alone. The calls allocate nothing and may run on any number of threads at once. A call that
+//! refuses writes nothing; a call that succeeds writes the bytes that it answers at the buffer's
+//! start and leaves the rest of the buffer as it was.
 //!
 //! ```
 //! let mut record = [0; 128];
@@ -154,6 +155,11 @@ refusals! {
     /// The name stands already in its block, all pieces equal byte for byte; in another block it
     /// may stand again. Place: the second name's first token.
     21 NameTwice "the name stands already in its block";
+    /// The record has no such place, or the place is omitted. Place: the number asked for.
+    26 NoPlace "there is no place with this number, or it is omitted";
+    /// The argument is not 1 to 4 unit fields that could stand under the base of its place.
+    /// Place: 0.
+    27 Argument "the argument is not 1 to 4 unit fields that could stand in its place";
 }
 
 impl fmt::Display for Refusal {
@@ -179,6 +185,13 @@ extern "C" {
         -> u64;
     fn mml_count(record: *const u8, record_len: usize) -> u64;
     fn mml_list(record: *const u8, record_len: usize, out: *mut u8, out_len: usize) -> u64;
+    fn mml_member(
+        record: *const u8,
+        record_len: usize,
+        place: u32,
+        argument: *const u8,
+        argument_len: usize,
+    ) -> u64;
     fn mml_key(keeper: *mut Keeper, key: u8) -> u64;
 }
 
@@ -310,6 +323,44 @@ impl<'l> Iterator for Pieces<'l> {
 
 impl FusedIterator for Pieces<'_> {}
 
+/// Tells where an argument stands first in a place of a record; none where it does not. Places
+/// count from 0 through all blocks, omitted ones included; positions count from 0 the arguments of
+/// the place, ranges written out. The argument is given as a record has it, by its unit fields, one
+/// behind the other, without the field of the element; it is the place's where all of them are
+/// equal. Refuses with [`Refusal::Record`], then [`Refusal::NoPlace`], then [`Refusal::Argument`].
+///
+/// ```
+/// let mut record = [0; 128];
+/// let length = mml::read(b"SET-ATT:LIN=7-1&&-3&-100&&-120,LEV=3.5;", b"DD", &mut record)?;
+/// let record = &record[..length];
+///
+/// let amplifier = |number| {
+///     let unit = |value| [7, 0, 6, b'D', 0, 0, 0, 0, value];
+///     [unit(7), unit(number)].concat()
+/// };
+/// assert_eq!(mml::member(record, 0, &amplifier(117))?, Some(20));
+/// assert_eq!(mml::member(record, 0, &amplifier(4))?, None);
+/// assert_eq!(mml::member(record, 2, &amplifier(117)), Err(mml::Refusal::NoPlace(2)));
+/// # Ok::<(), mml::Refusal>(())
+/// ```
+///
+/// Of an argument as it is typed, [`read`] makes the unit fields: in the record of `A:7-117;` read
+/// with the base letter of the place, they stand behind the field of the single element, from byte
+/// 22 on.
+pub fn member(record: &[u8], place: u32, argument: &[u8]) -> Result<Option<u32>, Refusal> {
+    // SAFETY: each pointer and length are those of one slice, and nothing is written.
+    let answer = unsafe {
+        mml_member(
+            record.as_ptr(),
+            record.len(),
+            place,
+            argument.as_ptr(),
+            argument.len(),
+        )
+    };
+    value_of(answer).map(|value| value.checked_sub(1))
+}
+
 /// A line keeper: takes what an operator types, one key at a time.
 ///
 /// [`KEY_BS`] removes the last byte held, and does nothing on an empty line. [`KEY_CAN`] empties
@@ -394,11 +445,13 @@ mod tests {
         assert_eq!(value_of((19 << 32) + 3), Err(Refusal::NoOrder(3)));
         assert_eq!(value_of((20 << 32) + 1024), Err(Refusal::NoKey(1024)));
         assert_eq!(value_of((21 << 32) + 8), Err(Refusal::NameTwice(8)));
+        assert_eq!(value_of((26 << 32) + 2), Err(Refusal::NoPlace(2)));
+        assert_eq!(value_of(27 << 32), Err(Refusal::Argument(0)));
     }
 
     #[test]
     fn high_bits_of_the_number_are_not_cut() {
-        for number in [22, 256, 256 + 14, 1 << 16, 1 << 31, u32::MAX] {
+        for number in [22, 25, 28, 256, 256 + 14, 1 << 16, 1 << 31, u32::MAX] {
             let answer = (u64::from(number) << 32) + 5;
             assert_eq!(value_of(answer), Err(Refusal::Unknown(number, 5)));
         }

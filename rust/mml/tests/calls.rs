@@ -1,4 +1,4 @@
-//! The six calls through the wrapper.
+//! The seven calls through the wrapper.
 
 use std::mem::{align_of, offset_of, size_of};
 
@@ -130,6 +130,61 @@ fn bytes_that_are_no_pieces_end_the_walk() {
     assert_eq!(mml::pieces(&empty).count(), 1);
 }
 
+/// The unit fields of an argument of decimal numerals.
+fn numerals(values: &[u32]) -> Vec<u8> {
+    let unit = |value: &u32| [&[7, 0, 6, b'D', 0][..], &value.to_be_bytes()].concat();
+    values.iter().flat_map(unit).collect()
+}
+
+#[test]
+fn where_an_argument_stands_in_a_place() {
+    let record = record();
+    for (number, position) in [
+        (0, None),
+        (1, Some(0)),
+        (2, Some(1)),
+        (3, Some(2)),
+        (4, None),
+    ] {
+        let argument = numerals(&[7, number]);
+        assert_eq!(mml::member(&record, 0, &argument), Ok(position));
+        assert_eq!(mml::member(&record, 1, &argument), Ok(None));
+    }
+    assert_eq!(mml::member(&record, 0, &numerals(&[2])), Ok(None));
+    let level = &record[record.len() - 9..];
+    assert_eq!(mml::member(&record, 1, level), Ok(Some(0)));
+    assert_eq!(mml::member(&record, 1, &numerals(&[35])), Ok(None));
+}
+
+#[test]
+fn the_last_of_as_many_arguments_as_there_may_be() {
+    let mut record = [0; 128];
+    let length = mml::read(b"A:,0&&4095;", b"", &mut record).unwrap();
+    let record = &record[..length];
+    assert_eq!(mml::member(record, 1, &numerals(&[4095])), Ok(Some(4095)));
+    assert_eq!(mml::member(record, 1, &numerals(&[4096])), Ok(None));
+}
+
+#[test]
+fn every_refusal_of_member() {
+    let mut record = record();
+    let argument = numerals(&[7, 1]);
+    for place in [2, 32, 1 << 16, u32::MAX] {
+        let answer = mml::member(&record, place, b"");
+        assert_eq!(answer, Err(Refusal::NoPlace(place)));
+    }
+    for argument in [&b""[..], b"x", &argument[..17], &argument.repeat(3)] {
+        let answer = mml::member(&record, 0, argument);
+        assert_eq!(answer, Err(Refusal::Argument(0)));
+    }
+    record[6] = 4;
+    assert_eq!(mml::member(&record, 2, b""), Err(Refusal::Record(0)));
+    let mut omitted = [0; 128];
+    let length = mml::read(b"A:,5;", b"", &mut omitted).unwrap();
+    let answer = mml::member(&omitted[..length], 0, &numerals(&[5]));
+    assert_eq!(answer, Err(Refusal::NoPlace(0)));
+}
+
 #[test]
 fn the_number_of_orders_that_a_record_begins_with() {
     let mut record = record();
@@ -141,6 +196,7 @@ fn the_number_of_orders_that_a_record_begins_with() {
         assert_eq!(mml::print(&record, &mut text), Err(Refusal::Record(0)));
         assert_eq!(mml::order(&record, 0, &mut text), Err(Refusal::Record(0)));
         assert_eq!(mml::list(&record, &mut text), Err(Refusal::Record(0)));
+        assert_eq!(mml::member(&record, 0, &[]), Err(Refusal::Record(0)));
     }
 }
 
@@ -196,14 +252,14 @@ fn every_refusal_of_the_reader() {
 #[test]
 fn every_number_has_its_refusal() {
     let mut sentences = Vec::new();
-    for number in 1..=21 {
+    for number in (1..=21).chain(26..=27) {
         let refusal = Refusal::new(number, 5);
         assert!(!matches!(refusal, Refusal::Unknown(..)));
         assert_eq!((refusal.number(), refusal.place()), (number, 5));
         assert!(!sentences.contains(&refusal.sentence()));
         sentences.push(refusal.sentence());
     }
-    for number in [0, 22, 270, u32::MAX] {
+    for number in [0, 22, 25, 28, 270, u32::MAX] {
         let refusal = Refusal::new(number, 5);
         assert_eq!(refusal, Refusal::Unknown(number, 5));
         assert_eq!((refusal.number(), refusal.place()), (number, 5));
@@ -227,6 +283,8 @@ fn empty_slices_may_stand_anywhere() {
     assert_eq!(mml::order(&[], 0, &mut []), Err(Refusal::Record(0)));
     assert_eq!(mml::count(&[]), Err(Refusal::Record(0)));
     assert_eq!(mml::list(&[], &mut []), Err(Refusal::Record(0)));
+    assert_eq!(mml::member(&[], 0, &[]), Err(Refusal::Record(0)));
+    assert_eq!(mml::member(&record(), 0, &[]), Err(Refusal::Argument(0)));
 }
 
 /// Takes keys to a keeper, all of which must be taken; gives whether the line is ready behind the

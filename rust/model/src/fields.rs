@@ -100,6 +100,12 @@ pub fn is_unit(tag: u8) -> bool {
     tag.wrapping_sub(NUMERAL) <= STRING - NUMERAL
 }
 
+/// Whether the tag is that of an element.
+#[inline(always)]
+pub fn is_element(tag: u8) -> bool {
+    tag == SINGLE || tag == RANGE
+}
+
 /// Upper end and increment from the content of a range element.
 #[inline(always)]
 pub fn range(content: &[u8]) -> Option<(u32, u32)> {

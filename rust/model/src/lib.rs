@@ -3,9 +3,9 @@
 //! It does what the proved library does, by the wording of document 01 and of the requests of
 //! document 02 that have landed, in plain Rust without allocation: [`key`] takes what is typed to
 //! the line of a [`Keeper`], [`read`] makes a record of a command, [`print`] a command of a record,
-//! [`count`] tells how many orders a record has, [`order`] gives one of them, and [`list`] all. A
-//! call that refuses writes nothing; a call that succeeds writes exactly the bytes it answers, and a
-//! key that is held one byte.
+//! [`count`] tells how many orders a record has, [`order`] gives one of them, [`list`] all, and
+//! [`member`] tells where an argument stands in a place. A call that refuses writes nothing; a call
+//! that succeeds writes exactly the bytes it answers, and a key that is held one byte.
 //!
 //! The model is what the library is compared with, in its answers and in its speed.
 
@@ -18,6 +18,7 @@ mod fields;
 mod groups;
 mod keeper;
 mod lists;
+mod members;
 mod names;
 mod orders;
 mod printer;
@@ -29,6 +30,7 @@ mod writer;
 
 pub use keeper::{key, Keeper};
 pub use lists::list;
+pub use members::member;
 pub use orders::{count, order};
 pub use printer::print;
 pub use reader::read;
@@ -36,9 +38,10 @@ pub use reader::read;
 /// A refusal: its number and its place, as the documents list them.
 #[derive(Clone, Copy, Debug, PartialEq, Eq)]
 pub struct Refusal {
-    /// 1 to 21.
+    /// 1 to 21, 26 or 27.
     pub number: u8,
-    /// A place in the text, an index of the base letters, or a size: by the number.
+    /// A place in the text, an index of the base letters, a size, or the number of a place of the
+    /// record: by the number.
     pub place: u32,
 }
 

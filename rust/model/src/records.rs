@@ -24,16 +24,17 @@ pub struct Group {
 #[inline(always)]
 pub fn judge(record: &[u8], group: impl FnMut(Group)) -> Option<u32> {
     let (count, fields) = fields::counted(record)?;
-    let mut judge = Judge {
-        record,
-        fields,
-        places: 0,
-        orders: 1,
-        group,
-    };
+    let mut judge = Judge::of(record, fields, group);
     judge.command()?;
     holds(judge.orders == count)?;
     Some(count)
+}
+
+/// Whether these bytes are the fields of 1 to 4 units that could stand under this base, and
+/// nothing else.
+pub fn is_argument(bytes: &[u8], base: Base) -> bool {
+    let mut judge = Judge::of(bytes, Fields { rest: bytes }, |_| ());
+    judge.argument(base).is_some() && judge.fields.rest.is_empty()
 }
 
 struct Judge<'r, G> {
@@ -45,7 +46,19 @@ struct Judge<'r, G> {
     group: G,
 }
 
-impl<G: FnMut(Group)> Judge<'_, G> {
+impl<'r, G: FnMut(Group)> Judge<'r, G> {
+    /// A judge that is at these fields of a record.
+    #[inline(always)]
+    fn of(record: &'r [u8], fields: Fields<'r>, group: G) -> Judge<'r, G> {
+        Judge {
+            record,
+            fields,
+            places: 0,
+            orders: 1,
+            group,
+        }
+    }
+
     fn command(&mut self) -> Option<()> {
         self.code()?;
         let mut blocks = 0;

@@ -320,4 +320,10 @@ fn the_longest_record() {
     let refusal = model::list(&record, &mut []).unwrap_err();
     let needed = 61_440 * (7 + order.len() as u32);
     assert_eq!((refusal.number, refusal.place), (17, needed));
+    let argument = &element[single().len()..];
+    for place in 0..32 {
+        assert_eq!(member(&record, place, argument), Ok(Some(0)));
+        assert_eq!(member(&record, place, &argument[83..]), Ok(None));
+    }
+    assert_eq!(member(&record, 32, argument), Err((26, 32)));
 }

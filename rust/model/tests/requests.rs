@@ -969,6 +969,291 @@ mod the_whole_list_on_one_buffer {
     }
 }
 
+/// M-107.
+mod is_this_amplifier_in_it {
+    use super::*;
+
+    /// Values, in a place of this base, with groups of all kinds and what is none.
+    const VALUES: &[(&str, &str)] = &[
+        ("5", ""),
+        ("X", ""),
+        ("\"a \"\"b\"\"\"", ""),
+        ("5&&9", ""),
+        ("5&&9++2&10", ""),
+        ("5&&9++7", ""),
+        ("5&&5&5", ""),
+        ("5&5&6&5&&7", ""),
+        ("7-1&&-3&-5&8-2&-5&-6&7-2", ""),
+        ("7-1&-3&&-5&7-0&&-9++3", ""),
+        ("X-\"\"-1&&-7++2&-X&\"\"-X-1&&-3", ""),
+        ("1-2-3-1&&-7++4&1-2-4-1&-2&1-2-3-5", "O"),
+        ("h'9&&h'1f++h'a&9&&29&o'11&b'1001&k'9&9.0&0.9", ""),
+        ("9&&1f++a&d'19&cafe&CAFG&1%", "H"),
+        ("1&*#&ABCD&abcd&\"1\"&e&1%", "K"),
+        ("0&&100&11&1&d'1", "B"),
+        ("4294967290&&4294967295++2&4294967295", ""),
+        ("4294967295&&4294967295++4294967295&0", ""),
+        ("0&&4294967295++2147483648&2147483648", ""),
+        ("0&&4094&5", ""),
+        ("4000&&4095&0&&3999", ""),
+    ];
+
+    /// Where an argument, typed so, stands first in a place of a command.
+    #[track_caller]
+    fn asked(text: &str, place: u32, base: &str, typed: &str) -> Result<Option<u32>, (u8, u32)> {
+        member(&record(text, ""), place, &argument(typed, base))
+    }
+
+    /// Expects an argument, typed so, to stand in the first place of a command, and where.
+    #[track_caller]
+    fn stands(text: &str, typed: &str, position: u32) {
+        assert_eq!(asked(text, 0, "", typed), Ok(Some(position)), "{typed}");
+    }
+
+    /// Expects an argument, typed so, not to stand in the first place of a command.
+    #[track_caller]
+    fn stands_not(text: &str, typed: &str) {
+        assert_eq!(asked(text, 0, "", typed), Ok(None), "{typed}");
+    }
+
+    #[test]
+    fn whether_amplifier_7_117_is_touched() {
+        let text = "SET-ATT:LIN=7-100&&-120,LEV=3.5;";
+        stands(text, "7-117", 17);
+        stands_not(text, "7-121");
+        stands_not(text, "8-117");
+        stands("SET-ATT:LIN=6-1&7-100&&-120++17&-5,LEV=3.5;", "7-117", 2);
+        stands_not("SET-ATT:LIN=6-1&7-100&&-120++16&-5,LEV=3.5;", "7-117");
+    }
+
+    /// The arguments of the sole place of a command, as its orders have them.
+    fn written_out(record: &[u8]) -> Vec<Vec<u8>> {
+        let before = group_in_place(1, b'D', &[single()]).len();
+        let count = u64::from(count(record).unwrap());
+        let mut out = vec![0; record.len()];
+        let mut argument = |k| {
+            let length = model::order(record, k, &mut out).unwrap();
+            out[before..length].to_vec()
+        };
+        (0..count).map(&mut argument).collect()
+    }
+
+    /// "the first position among that place's arguments, all written out"
+    #[test]
+    fn every_argument_stands_where_it_is_written_first() {
+        for &(value, base) in VALUES {
+            let record = record(&format!("A:{value};"), base);
+            let arguments = written_out(&record);
+            for argument in &arguments {
+                let first = arguments.iter().position(|other| other == argument);
+                let first = first.map(|position| position as u32);
+                assert_eq!(member(&record, 0, argument), Ok(first), "{value}");
+            }
+        }
+    }
+
+    #[test]
+    fn what_stands_in_another_value_alone_does_not_stand() {
+        for &(value, base) in VALUES {
+            let record = record(&format!("A:{value};"), base);
+            let arguments = written_out(&record);
+            for other in VALUES.iter().filter(|other| other.1 == base) {
+                let other = argument(other.0.split('&').next().unwrap(), base);
+                let first = arguments.iter().position(|argument| *argument == other);
+                let first = first.map(|position| position as u32);
+                assert_eq!(member(&record, 0, &other), Ok(first), "{value}");
+            }
+        }
+    }
+
+    #[test]
+    fn the_first_of_arguments_that_are_repeated() {
+        stands("A:1&5&5&&7&5;", "5", 1);
+        stands("A:1&&9++4&5;", "5", 1);
+        stands("A:5&&7&5&&9;", "9", 7);
+        stands("A:5&&7&5&&9;", "6", 1);
+    }
+
+    #[test]
+    fn between_two_terms_and_past_the_ends_of_a_range() {
+        let text = "A:7-10&&-20++4;";
+        for (typed, position) in [("7-10", 0), ("7-14", 1), ("7-18", 2)] {
+            stands(text, typed, position);
+        }
+        for typed in ["7-0", "7-9", "7-11", "7-13", "7-19", "7-20", "7-22"] {
+            stands_not(text, typed);
+        }
+        stands_not("A:4294967290&&4294967295++4;", "4294967295");
+        stands_not("A:4294967290&&4294967295++4;", "2");
+    }
+
+    #[test]
+    fn places_count_from_0_through_all_blocks_omitted_ones_included() {
+        let text = "A:1&2,,3:N=4,M=5&6:,;";
+        for (place, typed) in [(0, "2"), (2, "3"), (3, "4"), (4, "6")] {
+            let position = u32::from(typed == "2" || typed == "6");
+            assert_eq!(asked(text, place, "", typed), Ok(Some(position)));
+            assert_eq!(asked(text, place, "", "7"), Ok(None));
+        }
+        for place in [1, 5, 6, 7, 31, 32, 255, 65_536, u32::MAX] {
+            assert_eq!(asked(text, place, "", "3"), Err((26, place)));
+        }
+    }
+
+    #[test]
+    fn a_value_of_another_place_is_not_looked_at() {
+        let text = "A:1,2&&4:N=5;";
+        for (place, typed) in [(0, "2"), (0, "5"), (1, "1"), (1, "5"), (2, "4")] {
+            assert_eq!(asked(text, place, "", typed), Ok(None), "{typed}");
+        }
+    }
+
+    #[test]
+    fn units_are_equal_when_their_fields_are() {
+        stands("A:07&8;", "7", 0);
+        stands("A:h'1f;", "H'01F", 0);
+        stands("A:k'ab;", "K'AB", 0);
+        for (text, typed) in [
+            ("A:7;", "H'7"),
+            ("A:7;", "7.0"),
+            ("A:5&&9;", "O'7"),
+            ("A:5&&9;", "7.0"),
+            ("A:5&&9;", "0.7"),
+            ("A:3.5;", "3.50"),
+            ("A:3.5;", "35"),
+            ("A:K'12;", "12"),
+            ("A:K'12;", "K'012"),
+            ("A:UP;", "up"),
+            ("A:UP;", "\"UP\""),
+            ("A:10%;", "10#"),
+            ("A:7-1&&-9;", "H'7-5"),
+            ("A:7-1&&-9;", "7.0-5"),
+        ] {
+            stands_not(text, typed);
+        }
+    }
+
+    #[test]
+    fn an_argument_with_another_number_of_units() {
+        for typed in ["7", "1", "7-1-1", "7-7-1", "7-1-1-1"] {
+            stands_not("A:7-1&&-3&8-1;", typed);
+        }
+        for typed in ["5-5", "0-5", "5-5-5-5"] {
+            stands_not("A:5&&9;", typed);
+        }
+    }
+
+    #[test]
+    fn eighteen_goes_before_26_and_27() {
+        let mut record = record("A:5&&8,;", "");
+        for at in 0..record.len() {
+            record[at] ^= 0x80;
+            not_well_formed(&record);
+            assert_eq!(member(&record, 0, &numeral(b'D', 0, 5)), Err((18, 0)));
+            record[at] ^= 0x80;
+        }
+        assert_eq!(member(&record, 0, &numeral(b'D', 0, 5)), Ok(Some(0)));
+    }
+
+    #[test]
+    fn no_such_place_or_an_omitted_one_goes_before_27() {
+        let five = numeral(b'D', 0, 5);
+        for (text, place) in [("A;", 0), ("A:;", 0), ("A:5,;", 1), ("A:5,;", 2)] {
+            let record = record(text, "K");
+            for argument in [&five[..], b"", b"x", &five.repeat(5)] {
+                assert_eq!(member(&record, place, argument), Err((26, place)));
+            }
+        }
+    }
+
+    #[test]
+    fn an_argument_has_1_to_4_units() {
+        let five = numeral(b'D', 0, 5);
+        let record = record("A:5;", "");
+        for (units, answer) in [
+            (0, Err((27, 0))),
+            (1, Ok(Some(0))),
+            (2, Ok(None)),
+            (4, Ok(None)),
+            (5, Err((27, 0))),
+            (1000, Err((27, 0))),
+        ] {
+            assert_eq!(member(&record, 0, &five.repeat(units)), answer);
+        }
+    }
+
+    #[test]
+    fn an_argument_is_whole_unit_fields_and_nothing_else() {
+        let record = record("A:5;", "");
+        let five = numeral(b'D', 0, 5);
+        for length in 1..five.len() {
+            assert_eq!(member(&record, 0, &five[..length]), Err((27, 0)));
+            let behind = [&five[..], &five[..length]].concat();
+            assert_eq!(member(&record, 0, &behind), Err((27, 0)));
+        }
+        for other in (0..=255).filter(|tag| !(7..=11).contains(tag)) {
+            for content in [&b""[..], b"D", &five[3..]] {
+                let other = field(other, content);
+                assert_eq!(member(&record, 0, &other), Err((27, 0)));
+                for argument in [[&other, &five[..]], [&five[..], &other]] {
+                    assert_eq!(member(&record, 0, &argument.concat()), Err((27, 0)));
+                }
+            }
+        }
+        let single = [single(), five].concat();
+        assert_eq!(member(&record, 0, &single), Err((27, 0)));
+    }
+
+    /// An argument is refused exactly where a record that holds it in this place would be.
+    #[track_caller]
+    fn stands_or_27(base: u8, argument: &[u8]) {
+        let place = with_unit(base, field(9, b"GO"));
+        let holds_it = count(&in_place(base, &[single(), argument.to_vec()])) == Ok(1);
+        let expected = if holds_it { Ok(None) } else { Err((27, 0)) };
+        assert_eq!(member(&place, 0, argument), expected, "{argument:?}");
+    }
+
+    #[test]
+    fn units_that_could_stand_under_the_base_of_the_place() {
+        for base in *b"DHOBK" {
+            for byte in 0..=255u8 {
+                for word in [vec![byte], vec![b'0', byte], vec![b'A', byte]] {
+                    for tag in 7..=11 {
+                        stands_or_27(base, &field(tag, &word));
+                    }
+                }
+                stands_or_27(base, &numeral(byte, 0, 5));
+                stands_or_27(base, &numeral(b'D', byte, 5));
+                stands_or_27(base, &numeral(b'H', byte, 5));
+            }
+            for length in [0, 1, 31, 32, 33, 80, 81, 255, 256] {
+                for (tag, byte) in [(8, b'*'), (9, b'G'), (10, b'%'), (11, b'x')] {
+                    stands_or_27(base, &field(tag, &vec![byte; length]));
+                }
+            }
+        }
+        let record = record("A:GO,1;", "KH");
+        assert_eq!(member(&record, 0, &numeral(b'D', 0, 5)), Err((27, 0)));
+        assert_eq!(member(&record, 1, &numeral(b'D', 0, 5)), Ok(None));
+        assert_eq!(member(&record, 1, &field(9, b"CAFE")), Err((27, 0)));
+        assert_eq!(member(&record, 0, &field(9, b"CAFE")), Ok(None));
+    }
+
+    #[test]
+    fn every_unit_is_judged_whatever_the_number_of_units() {
+        let record = record("A:GO;", "K");
+        let right = field(9, b"GO");
+        let wrong = numeral(b'D', 0, 5);
+        for units in 1..=4 {
+            for at in 0..units {
+                let mut argument = vec![right.clone(); units];
+                argument[at] = wrong.clone();
+                assert_eq!(member(&record, 0, &argument.concat()), Err((27, 0)));
+            }
+        }
+    }
+}
+
 /// M-109.
 mod terminals_without_shift_lock {
     use super::*;

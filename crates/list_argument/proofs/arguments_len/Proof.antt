@@ -1,6 +1,6 @@
 -- `arguments_len` meets its contract: what is counted, and the arguments of the elements that are left, are all; nothing wraps, since a value's end is told in two bytes.
 use borrow.Author.Needs.{needs}
-use Rattle.list_argument.proofs.StandingLaws.{value-whole}
+use Rattle.record_walk.proofs.ValueLaws.{value-whole}
 use Rattle.list_argument.proofs.SumLaws.{Summing, summing-none, summing-more, summing-fits, summing-product, summing-less, summing-all}
 use Prim.Native.Nat.{_-_}
 use Rattle.list_argument.proofs.arguments_len.Statement.{statement}

@@ -1,6 +1,7 @@
 -- `first` meets its contract: the first element's first term, or where nothing stands the place itself.
 use borrow.Author.Needs.{needs}
-use Rattle.list_argument.proofs.StandingLaws.{value-whole, first-some, first-none}
+use Rattle.record_walk.proofs.ValueLaws.{value-whole}
+use Rattle.list_argument.proofs.StandingLaws.{first-some, first-none}
 use Rattle.list_argument.proofs.first.Statement.{statement}
 use Rattle.list_argument.proofs.first.Tie as tie
 

@@ -139,6 +139,19 @@ pub fn pieces(mut list: &[u8]) -> Vec<&[u8]> {
     pieces
 }
 
+/// Where an argument stands first in a place of a record, or the refusal.
+pub fn member(record: &[u8], place: u32, argument: &[u8]) -> Result<Option<u32>, (u8, u32)> {
+    let answer = model::member(record, place, argument);
+    answer.map_err(|refusal| (refusal.number, refusal.place))
+}
+
+/// The unit fields of an argument as it is typed in a place of this base.
+#[track_caller]
+pub fn argument(text: &str, base: &str) -> Vec<u8> {
+    let before = group_in_place(1, b'D', &[single()]).len();
+    record(&format!("A:{text};"), base).split_off(before)
+}
+
 /// Expects a value, in the one place of the command `A`, to name these arguments.
 #[track_caller]
 pub fn names(value: &str, arguments: &[&str]) {
@@ -153,6 +166,9 @@ pub fn not_well_formed(record: &[u8]) {
     assert_eq!(count(record), Err((18, 0)), "{record:?}");
     assert_eq!(order(record, 0), Err((18, 0)), "{record:?}");
     assert_eq!(list(record), Err((18, 0)), "{record:?}");
+    for place in [0, u32::MAX] {
+        assert_eq!(member(record, place, b""), Err((18, 0)), "{record:?}");
+    }
 }
 
 /// The letters of a record's places.

@@ -1,0 +1,5 @@
+pub mod ElementLaws
+pub mod SeekLaws
+pub mod TermLaws
+pub mod GivenLaws
+pub mod AnswerLaws
