@@ -1,4 +1,4 @@
--- The loop that copies an argument behind `A:`.
+-- The loop that copies an argument behind `A:`; what stands where the value of its record begins; and what the library answered.
 use mathlib.Core.Path.{_≡_, refl, sym, ap, subst, _∙_}
 use mathlib.Core.List.{List, [], _∷_, _++_}
 use Prim.Native.Nat.{ℕ, zero, suc, _+_, _-_, _≤_, _<_}
@@ -7,7 +7,7 @@ use native.Mathlib.Numerals.{add-one}
 use borrow.Author.Tests.{eq-eqb, ne-eqb}
 use lib.ListN.{length, getD, take, drop, set, length-append, length-take, length-set}
 use lib.Seq.{length-take-le, take-suc, take-all}
-use Rattle.laws.specs.Over.{over, over-byte, length-over}
+use Rattle.laws.specs.Over.{over, over-byte}
 use Rattle.rules.specs.Characters.{byte}
 use Rattle.rules.specs.Records.{singleTag}
 use Rattle.console_figures.specs.Asked.{asked, valueAt, argumentFields, memberOf}

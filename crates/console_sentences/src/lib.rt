@@ -6,7 +6,8 @@ pub use console_window::point;
 // The key of the phrase that a refusal has whatever the line is.
 const GENERAL: u8 = b'.';
 
-// The last refusal whose place is one in the line, but for NO_KEY and NAME_TWICE: the later ones speak of a buffer, a record or an order.
+// The last refusal whose place is one in the line, but for NO_KEY and NAME_TWICE: the later ones speak of a buffer, a record, an order
+// or a place.
 const LAST_OF_LINE: u8 = rules::TOO_MANY_ORDERS;
 
 // Shows a refusal: the line that was refused or, where its bases are at fault, those; a caret under the place, or behind the line if
