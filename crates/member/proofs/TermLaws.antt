@@ -8,7 +8,6 @@ use native.Mathlib.Omega.{arith}
 use borrow.Author.Tests.{eqb-true, eq-eqb, ne-eqb, le-leb, lt-leb}
 use lib.Dec.{leb, eqb}
 use lib.ListN.{length, take, drop}
-use lib.Seq.{length-take-le}
 use Rattle.laws.specs.Cases.{and-l, and-false}
 use Rattle.laws.specs.Lists.{eqL}
 use Rattle.laws.specs.Over.{part, part-from}
@@ -36,9 +35,6 @@ module _ (x w : List ℕ) where
   unfolding alike
   alike-long h q y =
       omega (arith, range-long x h, eqb-true (length x - 11) (length w) (and-l (eqb (length x - 11) (length w)) (eqL (take (length w - 4) (drop 11 x)) (take (length w - 4) w)) (sym q ∙ y)))
-
-  pub alike-cut : isRange x ≡ true → length x - rangeField ≡ length w → length w - 4 ≡ length (take (length w - 4) w)
-  alike-cut h e = sym (length-take-le (length w - 4) w (omega arith))
 
 -- ---- the step
 

@@ -1,10 +1,12 @@
 -- `alike` meets its contract: lengths come before bytes.
-use Rattle.member.proofs.TermLaws.{alike-longer, alike-is, alike-cut}
+use Rattle.member.proofs.TermLaws.{alike-longer, alike-is}
 use Rattle.order_argument.proofs.TermLaws.{range-long}
 use borrow.Author.Needs.{needs}
 use Prim.Native.Nat.{_≤_}
 use native.Mathlib.Omega.{arith}
+use mathlib.Core.Path.{sym}
 use lib.ListN.{length}
+use lib.Seq.{length-take-le}
 use denote.Ref.{now}
 use Rattle.member.proofs.alike.Statement.{statement}
 use Rattle.member.proofs.alike.Tie as tie
@@ -32,7 +34,7 @@ part-same-start : tie.Need-part-same-start
 part-same-start c = let s : tie.Start = search in omega (arith, long s)
 
 slice-aggregate-same : tie.Need-slice-aggregate-same
-slice-aggregate-same c = search (needs, alike-cut)
+slice-aggregate-same c = sym (length-take-le _ _ (omega arith))
 
 returns-2 : tie.Need-returns-2
 returns-2 c = search (needs, alike-is)
