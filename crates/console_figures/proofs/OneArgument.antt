@@ -5,7 +5,6 @@ use native.Mathlib.Omega.{arith}
 use mathlib.Core.Path.{_≡_, refl, sym, ap, _∙_}
 use mathlib.Core.Bool.{Bool, true, false, false≢true}
 use mathlib.Core.List.{List, [], _∷_, _++_, map, append-assoc, append-nil}
-use mathlib.Core.Option.{Option, none, some}
 use lib.ListN.{length, take, length-append}
 use lib.Seq.{take-at}
 use Rattle.laws.specs.Cases.{some-inj}
@@ -13,9 +12,9 @@ use Rattle.laws.specs.Lists.{all, isNil, all-member}
 use Rattle.rules.specs.Characters.{byte}
 use Rattle.rules.specs.Units.{Base, Unit, num, keyed, identifier, symbolic, text}
 use Rattle.rules.specs.Commands.{Element, single, range, Place, place, Block, block, Command, command}
-use Rattle.rules.specs.Records.{nameTag, isUnit, Field, field, unitField, elementFields, many, placeFields, blockFields, fieldBytes, bytesOf, encode, cutFields, tag}
+use Rattle.rules.specs.Records.{nameTag, isUnit, Field, field, unitField, elementFields, many, placeFields, blockFields, bytesOf, encode, cutFields, tag}
 use Rattle.rules.proofs.DecodeEncode.{cut-all}
-use Rattle.rules.proofs.ValueBack.{fieldUnit, field-unit}
+use Rattle.rules.proofs.FirstPosition.{bytes-units}
 use Rattle.console_figures.specs.Asked.{asked, argumentText, argumentFields}
 
 -- ---- the text
@@ -57,19 +56,6 @@ headIsUnit (f ∷ fs) = isUnitField f
 later : (gs fs : List Field) → headIsUnit fs ≡ false → all isUnitField (gs ++ fs) ≡ true → ⊥
 later gs [] h k = false≢true (sym h)
 later gs (f ∷ fs) h k = false≢true (sym h ∙ all-member isUnitField gs f fs k)
-
--- the units of fields
-abbrev given : Option Unit → Unit
-given none = text []
-given (some u) = u
-
-abbrev unitsIn : List Field → List Unit
-unitsIn [] = []
-unitsIn (f ∷ fs) = given (fieldUnit (fieldBytes f)) ∷ unitsIn fs
-
-units-back : (us : List Unit) → unitsIn (map unitField us) ≡ us
-units-back [] = refl
-units-back (u ∷ us) = rw (field-unit u, units-back us) refl
 
 -- ---- the command
 
@@ -129,11 +115,10 @@ module _ (x : ℕ) (k : Bool) (b : Base) (i : Unit) (is : List Unit) where
   nothing-else [] (single l u ∷ []) (place c ms w ∷ ps) bs e = absurd (more l u [] (place c ms w ∷ ps) bs refl e)
   nothing-else [] (single l u ∷ []) [] (block d qs ∷ bs) e = absurd (more l u [] [] (block d qs ∷ bs) refl e)
   nothing-else [] (single l u ∷ []) [] [] e =
-      let same : unitsOf l u ≡ map unitField (i ∷ is) = same-fields (unitsOf l u) (map unitField (i ∷ is)) (sym (one-argument x k b l u) ∙ e) in
       record {
         leading = l;
         last = u;
-        units = sym (units-back (l ++ (u ∷ []))) ∙ ap unitsIn same ∙ units-back (i ∷ is);
+        units = bytes-units (l ++ (u ∷ [])) (i ∷ is) (sym (one-argument x k b l u) ∙ e);
         value = refl;
         no-name = refl;
         no-place = refl;
