@@ -7,16 +7,21 @@
  *
  * A record is the same command as tagged fields, ready for a program. An order is a record in
  * which each group of arguments is reduced to one argument; the command above has three
- * orders. There are seven calls:
+ * orders. There are ten calls:
  *
- *     mml_key     keeper and key         ->  keeper, and whether its line is ready
- *     mml_read    text and base letters  ->  record
- *     mml_print   record                 ->  text
- *     mml_count   record                 ->  number of orders
- *     mml_order   record and k           ->  order number k, as a record
- *     mml_list    record                 ->  all orders, each behind its length
- *     mml_member  record, place number   ->  whether the argument stands in that place, and
- *                 and argument               where it does first
+ *     mml_key        keeper and key         ->  keeper, and whether its line is ready
+ *     mml_read       text and base letters  ->  record
+ *     mml_print      record                 ->  text
+ *     mml_count      record                 ->  number of orders
+ *     mml_order      record and k           ->  order number k, as a record
+ *     mml_list       record                 ->  all orders, each behind its length
+ *     mml_member     record, place number   ->  whether the argument stands in that place, and
+ *                    and argument               where it does first
+ *     mml_read_row   text and base letters  ->  record, and the row of its places' offsets
+ *     mml_order_row  record and k           ->  order number k, and the row of its places'
+ *                                               offsets
+ *     mml_place      record, row and place  ->  that place's fields, as part of the record
+ *                    number                     itself
  *
  * ANSWERS. Each call answers one 64-bit number: a refusal number times 2^32, plus a value.
  * Take it apart with MML_NUMBER and MML_VALUE.
@@ -24,16 +29,19 @@
  *     number 0        the call succeeded; the value is the number of bytes written at the
  *                     start of out (mml_count: the number of orders; mml_key: 1 if the line is
  *                     ready, else 0; mml_member: 1 + the position if the argument stands there,
- *                     else 0)
+ *                     else 0; mml_place: the number of bytes of the place's fields)
  *     another number  the call refused; the value is the place (see the list below)
  *
- * A call that succeeds leaves the rest of out as it was. A call that refuses changes no byte:
- * nothing is written to out, and a keeper stays as it was. The inputs are never written.
+ * A call that succeeds leaves the rest of out, and the rest of a row, as it was. A call that
+ * refuses changes no byte: nothing is written to out or to a row, and a keeper stays as it was.
+ * The inputs are never written.
  *
  * POINTERS. A pointer may be anything valid for its length in bytes; there is no alignment and
  * nothing is zero-terminated. With length 0 a pointer may be anything, NULL too: nothing is
  * read or written through it. out must not overlap an input. A keeper's pointer leads to a
- * mml_keeper, aligned as the compiler lays one out, and is never NULL.
+ * mml_keeper, aligned as the compiler lays one out, and is never NULL. A row's pointer leads to
+ * so many uint32_t, the length in slots and not in bytes, aligned as the compiler lays them out;
+ * a row that is filled overlaps neither out nor an input.
  *
  * KEYS. A line keeper takes what an operator types, one key at a time, and says when the line
  * is ready for mml_read:
@@ -56,21 +64,22 @@
  *
  * THREADS AND MEMORY. The library has no state and allocates nothing: any number of threads
  * may call at once, also from an interrupt or a signal handler that has the stack for it:
- * mml_read takes less than 16 KiB, mml_key less than 3 KiB, mml_list less than 1,536 bytes, every
- * other call less than 1 KiB, by the frames of the compiled code.
+ * mml_read and mml_read_row take less than 16 KiB, mml_key less than 3 KiB, mml_list less
+ * than 1,536 bytes, every other call less than 1 KiB, by the frames of the compiled code.
  *
  * LINKING. libmml.a is x86-64 code for Linux. It calls two functions that it does not have,
  * memcpy and memset, which every C library has; without a C library, give it them.
  *
  * SIZES. An out of these sizes always suffices:
  *
- *     mml_read    MML_RECORD_MAX bytes
- *     mml_print   MML_TEXT_MAX bytes
- *     mml_order   record_len bytes: an order is never longer than its record
- *     mml_list    record_len + 7 bytes for each order
+ *     mml_read, mml_read_row    MML_RECORD_MAX bytes
+ *     mml_print                 MML_TEXT_MAX bytes
+ *     mml_order, mml_order_row  record_len bytes: an order is never longer than its record
+ *     mml_list                  record_len + 7 bytes for each order
  *
  * With less, refusal 17 tells the bytes needed: call first with out_len 0 to learn the size. Ask so
- * for a list: that of the command A:0&&4094,0&&15; has 3,538,080 bytes.
+ * for a list: that of the command A:0&&4094,0&&15; has 3,538,080 bytes. A row of MML_PLACES_MAX
+ * slots always suffices.
  *
  * RECORDS. A record is a sequence of fields:
  *
@@ -162,6 +171,43 @@
  * Of an argument as it is typed, mml_read makes the unit fields: in the record of A:7-117; read
  * with the base letter of the place, they stand behind the field single element, from byte 22 on.
  * examples/c/member.c asks so.
+ *
+ * ROWS. A row of offsets tells where each place of a record begins, so that who turns pages need
+ * not walk the record from its start. A slot of the row is a number of 32 bits; slot n is the
+ * offset of place n: the bytes from the record's first one, the 7 of the field orders included, to
+ * the field place (tag 3) of that place. Places are counted from 0, through all blocks, omitted
+ * ones included. The row of SET-ATT:LIN=7-1&&-3,LEV=3.5; is 23, 62.
+ *
+ * mml_read_row and mml_order_row do what mml_read and mml_order do, and also fill a row that the
+ * caller lends with the offsets of the record that they write. Slots beyond the places keep their
+ * numbers. No offset is 0: who sets all slots to 0 before sees by them how many places there are.
+ *
+ *     uint32_t row[MML_PLACES_MAX] = { 0 };
+ *     answer = mml_read_row(text, text_len, bases, bases_len, record, MML_RECORD_MAX,
+ *                           row, MML_PLACES_MAX);
+ *
+ * mml_place tells how many bytes the fields of a place have. They begin where its slot says, so
+ * they are handed back as part of the record itself:
+ *
+ *     answer = mml_place(record, record_len, row, MML_PLACES_MAX, n);
+ *     if (MML_NUMBER(answer) == MML_DONE) show(record + row[n], MML_VALUE(answer));
+ *
+ * These are the field place, in a block N the name pieces, and the value; an omitted place has its
+ * field place alone, 4 bytes. Record and row may come from elsewhere and be anything: each call
+ * judges the whole record (18), then the whole row (28), whatever place is asked for. A row that is
+ * let pass has in its first slots the offsets of all places; slots behind them are not looked at.
+ *
+ * A record and its row that the library wrote by one call, unchanged since, need no judging: there
+ * row[n] is the offset of place n, for every n below the number of places, and a page may be turned
+ * by it without a call. The fields of place n end where, walking from field to field, the next
+ * field place or block begins, and if there is none where the record ends:
+ *
+ *     end = row[n];
+ *     do
+ *         end += 3 + ((size_t)record[end + 1] << 8 | record[end + 2]);
+ *     while (end < record_len && record[end] != MML_TAG_PLACE && record[end] != MML_TAG_BLOCK);
+ *
+ * examples/c/index.c turns pages in both ways.
  */
 
 #ifndef MML_H
@@ -175,9 +221,9 @@ extern "C" {
 #endif
 
 /* The version of the interface. */
-#define MML_VERSION "2.2"
+#define MML_VERSION "2.3"
 #define MML_VERSION_MAJOR 2
-#define MML_VERSION_MINOR 2
+#define MML_VERSION_MINOR 3
 
 /* The longest text that is read or printed, and the longest line that is kept, in bytes. */
 #define MML_TEXT_MAX 1024u
@@ -188,13 +234,17 @@ extern "C" {
 /* The most base letters, and so the most places of a command. */
 #define MML_BASES_MAX 32u
 
+/* The most places of a command: a row of so many slots always suffices. */
+#define MML_PLACES_MAX 32u
+
 /* The keys that correct a line. */
 #define MML_KEY_BS 8u
 #define MML_KEY_CAN 24u
 
 /* MML_NUMBER, the number of an answer: 0 for success, else the refusal.
    MML_VALUE, the value of an answer: bytes written, number of orders, 1 for a ready line, 1 + the
-   position of an argument, or the place of the refusal. The answer is a uint64_t. */
+   position of an argument, bytes of a place's fields, or the place of the refusal. The answer is a
+   uint64_t. */
 #ifdef __cplusplus
 #define MML_NUMBER(answer) (static_cast<unsigned>((answer) >> 32))
 #define MML_VALUE(answer) (static_cast<uint32_t>((answer) & 0xFFFFFFFFu))
@@ -206,9 +256,9 @@ extern "C" {
 /*
  * The refusals. "Place" is counted in bytes of the text from 0 unless said otherwise.
  *
- *    mml_read answers the first of 1 to 17 and 21 that applies, 21 between 10 and 11;
- *    mml_print 18, 2 or 17, mml_order 18, 19 or 17, mml_count 18, mml_list 18 or 17,
- *    mml_member 18, 26 or 27, mml_key 20.
+ *    mml_read and mml_read_row answer the first of 1 to 17 and 21 that applies, 21 between 10 and
+ *    11; mml_print 18, 2 or 17, mml_order and mml_order_row 18, 19 or 17, mml_count 18, mml_list
+ *    18 or 17, mml_member 18, 26 or 27, mml_place 18, 28 or 26, mml_key 20.
  */
 enum {
     MML_DONE = 0,
@@ -267,7 +317,9 @@ enum {
        with which it does. */
     MML_TOO_MANY = 16,
 
-    /* The buffer is too short. Place: the bytes needed. */
+    /* The buffer is too short. Place: the bytes needed. Of mml_read_row and mml_order_row also,
+       where the buffer suffices: the row is too short. Place: the slots needed. A place above
+       out_len is bytes, any other slots. */
     MML_BUFFER_TOO_SHORT = 17,
 
     /* The record is not well formed. Place: 0. */
@@ -284,12 +336,17 @@ enum {
        may stand again. Place: the second name's first token. */
     MML_NAME_TWICE = 21,
 
-    /* The record has no such place, or the place is omitted. Place: the number asked for. */
+    /* The record has no such place; of mml_member also: the place is omitted. Place: the number
+       asked for. */
     MML_NO_PLACE = 26,
 
     /* The argument is not 1 to 4 unit fields that could stand under the base of its place.
        Place: 0. */
-    MML_ARGUMENT = 27
+    MML_ARGUMENT = 27,
+
+    /* The row is not the record's: it is shorter than the places, or a slot differs from the offset
+       of its place. Place: the first slot that is missing or differs. */
+    MML_ROW = 28
 };
 
 /* The tags of a record's fields; RECORDS above says what they hold. */
@@ -380,6 +437,35 @@ uint64_t mml_list(const uint8_t *record, size_t record_len,
  */
 uint64_t mml_member(const uint8_t *record, size_t record_len, uint32_t place,
                     const uint8_t *argument, size_t argument_len);
+
+/*
+ * Reads one command as mml_read does, and fills the row with the offsets of its places; ROWS above
+ * says what they are. The value is the bytes written to out. Refuses as mml_read does, then, where
+ * out suffices, a row with fewer slots than the command has places with 17, whose place is the
+ * slots needed. A refusal writes neither out nor row.
+ */
+uint64_t mml_read_row(const uint8_t *text, size_t text_len,
+                      const uint8_t *bases, size_t bases_len,
+                      uint8_t *out, size_t out_len,
+                      uint32_t *row, size_t row_len);
+
+/*
+ * Gives order number k of a record as mml_order does, and fills the row with the offsets of the
+ * order's places, not of the record's. The value is the bytes written to out. Refuses as mml_order
+ * does, then a row that is too short as mml_read_row does.
+ */
+uint64_t mml_order_row(const uint8_t *record, size_t record_len, uint64_t k,
+                       uint8_t *out, size_t out_len,
+                       uint32_t *row, size_t row_len);
+
+/*
+ * Hands back the fields of a place by the record's row: they begin at record + row[place], and the
+ * value is how many bytes they have, 4 or more. Refuses a record that is not well formed with 18,
+ * then a row that is not the record's with 28, then a place that the record lacks with 26. Writes
+ * nothing.
+ */
+uint64_t mml_place(const uint8_t *record, size_t record_len,
+                   const uint32_t *row, size_t row_len, uint32_t place);
 
 #ifdef __cplusplus
 }

@@ -6,7 +6,7 @@
 #include "mml.h"
 
 static const char version[] = MML_VERSION;
-static const unsigned sizes[] = { MML_TEXT_MAX, MML_RECORD_MAX, MML_BASES_MAX };
+static const unsigned sizes[] = { MML_TEXT_MAX, MML_RECORD_MAX, MML_BASES_MAX, MML_PLACES_MAX };
 static const unsigned keys[] = { MML_KEY_BS, MML_KEY_CAN };
 
 static const unsigned refusals[] = {
@@ -16,7 +16,7 @@ static const unsigned refusals[] = {
 };
 
 /* The refusals from 26 on. */
-static const unsigned later_refusals[] = { MML_NO_PLACE, MML_ARGUMENT };
+static const unsigned later_refusals[] = { MML_NO_PLACE, MML_ARGUMENT, MML_ROW };
 
 static const unsigned tags[] = {
     0, MML_TAG_CODE_PIECE, MML_TAG_BLOCK, MML_TAG_PLACE, MML_TAG_NAME_PIECE, MML_TAG_SINGLE, MML_TAG_RANGE, MML_TAG_NUMERAL,
@@ -70,7 +70,10 @@ static int linked(void)
 {
     return MML_NUMBER(mml_read(NULL, 0, NULL, 0, NULL, 0)) == MML_NO_END && MML_NUMBER(mml_print(NULL, 0, NULL, 0)) == MML_RECORD
            && MML_NUMBER(mml_order(NULL, 0, 0, NULL, 0)) == MML_RECORD && MML_NUMBER(mml_count(NULL, 0)) == MML_RECORD
-           && MML_NUMBER(mml_list(NULL, 0, NULL, 0)) == MML_RECORD && MML_NUMBER(mml_member(NULL, 0, 0, NULL, 0)) == MML_RECORD;
+           && MML_NUMBER(mml_list(NULL, 0, NULL, 0)) == MML_RECORD && MML_NUMBER(mml_member(NULL, 0, 0, NULL, 0)) == MML_RECORD
+           && MML_NUMBER(mml_read_row(NULL, 0, NULL, 0, NULL, 0, NULL, 0)) == MML_NO_END
+           && MML_NUMBER(mml_order_row(NULL, 0, 0, NULL, 0, NULL, 0)) == MML_RECORD
+           && MML_NUMBER(mml_place(NULL, 0, NULL, 0, 0)) == MML_RECORD;
 }
 
 int main(void)
@@ -81,7 +84,7 @@ int main(void)
         return 1;
     if (version[0] - '0' != MML_VERSION_MAJOR || version[1] != '.' || version[2] - '0' != MML_VERSION_MINOR || version[3] != 0)
         return 2;
-    if (sizes[0] != 1024 || sizes[1] != 65536 || sizes[2] != 32 || keys[0] != 8 || keys[1] != 24)
+    if (sizes[0] != 1024 || sizes[1] != 65536 || sizes[2] != 32 || sizes[3] != 32 || keys[0] != 8 || keys[1] != 24)
         return 3;
     if (!taken_apart())
         return 4;

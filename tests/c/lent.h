@@ -3,7 +3,7 @@
  *
  * A field is some pages of memory between two pages without access: who touches those is stopped by the machine. A buffer
  * stands in its field at one of POSITIONS: 0 to 7 bytes behind a multiple of 8, up to the page behind the field, from the
- * page before it on, or, if it has length 0, nowhere: its pointer is null. A keeper stands only where its alignment lets it.
+ * page before it on, or, if it has length 0, nowhere: its pointer is null. A keeper or a row stands only where its alignment lets it.
  * Every byte of the field that is not the buffer's is watched.
  *
  * Include it first: it asks for the POSIX functions.
@@ -22,7 +22,7 @@
 
 enum { OFFSETS = 8, TO_GUARD = OFFSETS, FROM_GUARD, NOWHERE, POSITIONS };
 enum { MARGIN = 64, WATCHED = 0xA5 };
-enum { KEEPER_ALIGNMENT = 4 };
+enum { ALIGNMENT = 4 };
 enum { FAILED = 1, STOPPED = 2 };
 
 /* Memory between two pages without access. */
@@ -85,10 +85,10 @@ static uint8_t *at_position(const struct field *field, int position, size_t len)
     return field->bytes + field->room - len;
 }
 
-/* The position, or the next one below it, at which a keeper may stand. */
-static int for_keeper(int position)
+/* The position, or the next one below it, at which a keeper or a row may stand. */
+static int aligned(int position)
 {
-    return position < OFFSETS ? position - position % KEEPER_ALIGNMENT : position;
+    return position < OFFSETS ? position - position % ALIGNMENT : position;
 }
 
 /* Puts a buffer with this content into the field. */

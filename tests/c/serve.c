@@ -1,22 +1,24 @@
 /*
  * serve - runs the library's calls for another program, which may be built for another processor.
  *
- * A request on standard input: the call (1 byte: 0 read, 1 print, 2 order, 3 count, 4 key, 5 list, 6 member), k (8 bytes), the lengths
- * of the first input, the second input and the buffer (4 bytes each), all low byte first, then the three contents. The reply on standard
- * output: the answer (8 bytes, low byte first), whether a byte beside the buffer or of an input was written (1 byte), and the buffer. Of
- * the call key the buffer is the keeper, byte for byte, and k the key; of member k is the place, and the second input the argument.
+ * A request on standard input: the call (1 byte: 0 read, 1 print, 2 order, 3 count, 4 key, 5 list, 6 member, 7 read_row, 8 order_row,
+ * 9 place), k (8 bytes), the lengths of the first input, the second input, the buffer and the row (4 bytes each), all low byte first, then
+ * the four contents. The reply on standard output: the answer (8 bytes, low byte first), whether a byte beside the buffer and the row or
+ * of an input was written (1 byte), the buffer, and the row. Of the call key the buffer is the keeper, byte for byte, and k the key; of
+ * member k is the place, and the second input the argument. A row is its slots, 4 bytes each, low byte first; of place it is an input,
+ * and k the place.
  *
- * From call to call the three are lent at other positions (lent.h), a keeper at those where it may stand. A touch of a page without
- * access ends the program.
+ * From call to call the four are lent at other positions (lent.h), a keeper and a row at those where they may stand. A touch of a page
+ * without access ends the program.
  */
 #include "lent.h"
 
 #include "mml.h"
 
-enum { READ, PRINT, ORDER, COUNT, KEY, LIST, MEMBER };
-enum { FIRST, SECOND, OUT, BUFFERS };
-enum { AT_K = 1, K_SIZE = 8, AT_LENGTHS = 9, LENGTH_SIZE = 4, HEAD_SIZE = 21 };
-enum { ANSWER_SIZE = 8 };
+enum { READ, PRINT, ORDER, COUNT, KEY, LIST, MEMBER, READ_ROW, ORDER_ROW, PLACE };
+enum { FIRST, SECOND, OUT, ROW, BUFFERS };
+enum { AT_K = 1, K_SIZE = 8, AT_LENGTHS = 9, LENGTH_SIZE = 4, HEAD_SIZE = 25 };
+enum { ANSWER_SIZE = 8, SLOT_SIZE = 4 };
 
 /* A content of a request, as it came. */
 struct content {
@@ -63,6 +65,36 @@ static void take(struct content *one, size_t len)
         stop("the request is cut off");
 }
 
+/* The number of a place, which k is. */
+static uint32_t place_of(uint64_t k)
+{
+    if (k > UINT32_MAX)
+        stop("the place is no number of 32 bits");
+    return (uint32_t)k;
+}
+
+/* Makes a call that has a row. */
+static uint64_t answer_by_row(int call, uint64_t k, const struct lent lent[BUFFERS])
+{
+    const struct lent *first = &lent[FIRST], *second = &lent[SECOND], *out = &lent[OUT];
+    uint32_t *row = (uint32_t *)lent[ROW].bytes;
+    size_t slots = lent[ROW].len / SLOT_SIZE;
+
+    if (lent[ROW].len % SLOT_SIZE != 0)
+        stop("the row is not whole slots");
+    switch (call) {
+    case READ_ROW:
+        return mml_read_row(first->bytes, first->len, second->bytes, second->len, out->bytes, out->len, row, slots);
+    case ORDER_ROW:
+        return mml_order_row(first->bytes, first->len, k, out->bytes, out->len, row, slots);
+    case PLACE:
+        return mml_place(first->bytes, first->len, row, slots, place_of(k));
+    default:
+        stop("there is no such call");
+        return 0;
+    }
+}
+
 /* Makes the call. */
 static uint64_t answer(int call, uint64_t k, const struct lent lent[BUFFERS])
 {
@@ -84,36 +116,45 @@ static uint64_t answer(int call, uint64_t k, const struct lent lent[BUFFERS])
     case LIST:
         return mml_list(first->bytes, first->len, out->bytes, out->len);
     case MEMBER:
-        if (k > UINT32_MAX)
-            stop("the place is no number of 32 bits");
-        return mml_member(first->bytes, first->len, (uint32_t)k, second->bytes, second->len);
+        return mml_member(first->bytes, first->len, place_of(k), second->bytes, second->len);
     default:
-        stop("there is no such call");
-        return 0;
+        return answer_by_row(call, k, lent);
     }
 }
 
-/* Was anything written but the buffer? */
-static int anything_harmed(const struct lent lent[BUFFERS])
+/* May the call write this of what it is lent? */
+static int is_written(int call, int which)
+{
+    return which == OUT || (which == ROW && (call == READ_ROW || call == ORDER_ROW));
+}
+
+/* Was anything written that the call may not write? */
+static int anything_harmed(int call, const struct lent lent[BUFFERS])
 {
     for (int i = 0; i < BUFFERS; i++)
-        if (is_harmed(&lent[i]) || (i != OUT && !holds(&lent[i], contents[i].bytes)))
+        if (is_harmed(&lent[i]) || (!is_written(call, i) && !holds(&lent[i], contents[i].bytes)))
             return 1;
     return 0;
 }
 
+/* Writes bytes of the reply. */
+static void put(const uint8_t *bytes, size_t len)
+{
+    if (len > 0 && fwrite(bytes, 1, len, stdout) != len)
+        stop("the reply cannot be written");
+}
+
 /* Writes the reply. */
-static void reply(uint64_t result, int harmed, const struct lent *out)
+static void reply(uint64_t result, int harmed, const struct lent lent[BUFFERS])
 {
     uint8_t head[ANSWER_SIZE + 1];
 
     for (int i = 0; i < ANSWER_SIZE; i++)
         head[i] = (uint8_t)(result >> (8 * i));
     head[ANSWER_SIZE] = (uint8_t)harmed;
-    if (fwrite(head, 1, sizeof head, stdout) != sizeof head)
-        stop("the reply cannot be written");
-    if (out->len > 0 && fwrite(out->bytes, 1, out->len, stdout) != out->len)
-        stop("the reply cannot be written");
+    put(head, sizeof head);
+    put(lent[OUT].bytes, lent[OUT].len);
+    put(lent[ROW].bytes, lent[ROW].len);
     if (fflush(stdout) != 0)
         stop("the reply cannot be written");
 }
@@ -128,13 +169,13 @@ static void serve(const uint8_t *head, unsigned turn)
         int position = (int)(turn % POSITIONS);
 
         take(&contents[i], low_first(head + AT_LENGTHS + i * LENGTH_SIZE, LENGTH_SIZE));
-        if (i == OUT && head[0] == KEY)
-            position = for_keeper(position);
+        if (i == ROW || (i == OUT && head[0] == KEY))
+            position = aligned(position);
         lent[i] = lend(&fields[i], position, contents[i].bytes, contents[i].len);
         turn /= POSITIONS;
     }
     result = answer(head[0], low_first(head + AT_K, K_SIZE), lent);
-    reply(result, anything_harmed(lent), &lent[OUT]);
+    reply(result, anything_harmed(head[0], lent), lent);
 }
 
 int main(void)

@@ -2,8 +2,8 @@
  * stack - the bytes of stack that each call takes; more than its bound is a failure.
  *
  * Each call runs on a stack of its own that is painted before; what is no longer painted was used. A command is read as it is, and
- * with spaces to the longest text, since longer texts are read through longer tables. Of its first place arguments of 1 to 4 units are
- * asked for. Keys are taken to lines of all lengths and ends, also where they are refused.
+ * with spaces to the longest text, since longer texts are read through longer tables. Of its first place the fields are asked for, and
+ * arguments of 1 to 4 units. Keys are taken to lines of all lengths and ends, also where they are refused.
  */
 #define _XOPEN_SOURCE 700
 #include <stdio.h>
@@ -14,7 +14,7 @@
 #include "mml.h"
 
 enum { ROOM = 1 << 18, PAINT = 0x5C, KIBIBYTE = 1024, LIST_ROOM = 1 << 22 };
-enum { READ, PRINT, ORDER, COUNT, LIST, MEMBER, KEY, CALLS };
+enum { READ, PRINT, ORDER, COUNT, LIST, READ_ROW, ORDER_ROW, PLACE, MEMBER, KEY, CALLS };
 
 /* Each call, and the bytes of stack that it may take: the reader has its tables of tokens there, a key copies of its keeper, a list two
    rows of 96 numbers, the others one at most. */
@@ -27,6 +27,9 @@ static const struct {
     [ORDER] = { "order", KIBIBYTE },
     [COUNT] = { "count", KIBIBYTE },
     [LIST] = { "list", 3 * KIBIBYTE / 2 },
+    [READ_ROW] = { "read_row", 16 * KIBIBYTE },
+    [ORDER_ROW] = { "order_row", KIBIBYTE },
+    [PLACE] = { "place", KIBIBYTE },
     [MEMBER] = { "member", KIBIBYTE },
     [KEY] = { "key", 3 * KIBIBYTE },
 };
@@ -74,6 +77,7 @@ static uint8_t text[MML_TEXT_MAX];
 static uint8_t record[MML_RECORD_MAX];
 static uint8_t out[MML_RECORD_MAX];
 static uint8_t list[LIST_ROOM];
+static uint32_t row[MML_PLACES_MAX], filled[MML_PLACES_MAX];
 static size_t text_len, record_len, argument_len;
 static uint64_t k, answer;
 static mml_keeper keeper;
@@ -94,6 +98,11 @@ static uint64_t read_text(void)
     return mml_read(text, text_len, (const uint8_t *)"", 0, out, sizeof out);
 }
 
+static uint64_t read_with(uint32_t *offsets)
+{
+    return mml_read_row(text, text_len, (const uint8_t *)"", 0, out, sizeof out, offsets, MML_PLACES_MAX);
+}
+
 static void run(void)
 {
     switch (call) {
@@ -108,6 +117,15 @@ static void run(void)
         break;
     case LIST:
         answer = mml_list(record, record_len, list, sizeof list);
+        break;
+    case READ_ROW:
+        answer = read_with(filled);
+        break;
+    case ORDER_ROW:
+        answer = mml_order_row(record, record_len, k, out, sizeof out, filled, MML_PLACES_MAX);
+        break;
+    case PLACE:
+        answer = mml_place(record, record_len, row, MML_PLACES_MAX, 0);
         break;
     case MEMBER:
         answer = mml_member(record, record_len, 0, argument, argument_len);
@@ -147,7 +165,7 @@ static void take(const char *command, size_t len)
     memset(text, ' ', sizeof text);
     memcpy(text, command, strlen(command));
     text_len = len;
-    answer = read_text();
+    answer = read_with(row);
     if (MML_NUMBER(answer) != MML_DONE)
         stop("a command is refused");
     record_len = MML_VALUE(answer);
@@ -166,7 +184,7 @@ static void measure(size_t most[CALLS], unsigned number)
 /* Runs every call of commands on what was taken up. */
 static void measure_command(size_t most[CALLS])
 {
-    for (call = READ; call <= LIST; call++)
+    for (call = READ; call < MEMBER; call++)
         measure(most, MML_DONE);
     call = MEMBER;
     for (argument_len = UNIT_LEN; argument_len <= sizeof argument; argument_len += UNIT_LEN)
@@ -205,7 +223,7 @@ int main(void)
         measure_keys(most, i, removing_keys, sizeof removing_keys, lines[i].removes);
     }
     for (call = 0; call < CALLS; call++) {
-        printf("%-6s %5zu bytes of stack, %5zu allowed\n", calls[call].name, most[call], calls[call].allowed);
+        printf("%-9s %5zu bytes of stack, %5zu allowed\n", calls[call].name, most[call], calls[call].allowed);
         if (calls[call].allowed < most[call]) {
             fprintf(stderr, "stack: %s takes more than %zu bytes\n", calls[call].name, calls[call].allowed);
             failed = 1;

@@ -9,7 +9,7 @@ use borrow.Author.Tests.{ltb-true, ltb-false}
 use mir.Syntax.{w64}
 use mir.Val.{Fits}
 use lib.Dec.{ltb}
-use lib.ListN.{length, getD, take, drop, length-append}
+use lib.ListN.{length, getD, take, drop, length-append, length-drop}
 use Rattle.rules.proofs.ReadSteps.{places-read, place-read, block-read, blocks-read, segs-read}
 use Rattle.laws.specs.Cases.{byBool}
 use Rattle.laws.specs.Over.{over, part, back, length-part}
@@ -311,37 +311,48 @@ module _ (ts cs ls : List ℕ) {k : ℕ} (f : k ≡ 0 + before 7 (drop 0 ts)) wh
 
 -- ---- the whole
 
-module _ (ts cs ls : List ℕ) {k : ℕ} (f : k ≡ 0 + before 9 (drop 0 ts)) where
-  -- a command that is read ends with its `;`
-  whole-is : (n : ℕ) (c : Command) → readCut (basesIn ls) n (cutAt semi (tokensIn cs ts)) ≡ ok c
-      → (k ≤ length ts) × (readSegs (basesIn ls) (split colon (placeIn (getD ts k 0)) (tokensIn cs (take k ts))) ≡ ok c)
-  whole-is n c h =
-      byBool (ltb k (length ts))
-      (λ y. let l = ltb-true k (length ts) y in
-      (omega arith, go (drop (k + 1) ts) (rw (cut-at semi cs ts f l) at h)))
-      (λ y. ok≢bad (rw (cut-none semi cs ts f (ltb-false k (length ts) y)) at h))
-    where
-      go : (us : List ℕ) → readCut (basesIn ls) n (cut (tokensIn cs (take k ts)) (placeIn (getD ts k 0)) (tokensIn cs us)) ≡ ok c
-          → readSegs (basesIn ls) (split colon (placeIn (getD ts k 0)) (tokensIn cs (take k ts))) ≡ ok c
-      go [] g = g
-      go (u ∷ us) g = ok≢bad g
+module _ (ts cs ls : List ℕ) where
+  abbrev first : ℕ
+  first = 0 + before 9 (drop 0 ts)
 
-  pub command-inside : (o room : ℕ) → CommandFits ts cs ls o room → k ≤ length ts
-  command-inside o room w = (whole-is (w .end) (w .c) (w .is)) .0
+  abbrev last : ℕ
+  last = length ts - 1
+
+  -- a command that is read ends with its `;`, the first one and the last token
+  whole-is : (n : ℕ) (c : Command) → readCut (basesIn ls) n (cutAt semi (tokensIn cs ts)) ≡ ok c
+      → (1 ≤ length ts) × (readSegs (basesIn ls) (split colon (placeIn (getD ts last 0)) (tokensIn cs (take last ts))) ≡ ok c)
+  whole-is n c h =
+      byBool (ltb first (length ts))
+      (λ y. let l = ltb-true first (length ts) y in go l (drop (first + 1) ts) refl (rw (cut-at semi cs ts refl l) at h))
+      (λ y. ok≢bad (rw (cut-none semi cs ts refl (ltb-false first (length ts) y)) at h))
+    where
+      go : first < length ts → (us : List ℕ) → drop (first + 1) ts ≡ us
+          → readCut (basesIn ls) n (cut (tokensIn cs (take first ts)) (placeIn (getD ts first 0)) (tokensIn cs us)) ≡ ok c
+          → (1 ≤ length ts) × (readSegs (basesIn ls) (split colon (placeIn (getD ts last 0)) (tokensIn cs (take last ts))) ≡ ok c)
+      go l [] e g =
+          let z : first ≡ last = omega (arith, ap length e, length-drop (first + 1) ts) in
+          (omega arith, subst (λ (i : ℕ). readSegs (basesIn ls) (split colon (placeIn (getD ts i 0)) (tokensIn cs (take i ts))) ≡ ok c) z g)
+      go l (u ∷ us) e g = ok≢bad g
+
+  pub command-some : (o room : ℕ) → CommandFits ts cs ls o room → 1 ≤ length ts
+  command-some o room w = (whole-is (w .end) (w .c) (w .is)) .0
+
+  pub command-inside : (o room : ℕ) → CommandFits ts cs ls o room → last ≤ length ts
+  command-inside o room w = omega arith
 
   module _ (o : ℕ) (old : List ℕ) {xs : List ℕ} (w : CommandFits ts cs ls o (length old)) (v : xs ≡ over (headBytes o) old) where
-    pub command-segments : SegmentsFit (take k ts) cs ls (length (part xs headSize))
+    pub command-segments : SegmentsFit (take last ts) cs ls (length (part xs headSize))
     command-segments =
         record {
-          end = placeIn (getD ts k 0);
+          end = placeIn (getD ts last 0);
           c = w .c;
           is = (whole-is (w .end) (w .c) (w .is)) .1;
           fits = room-behind (headBytes o) (bodyBytes (w .c)) old (refl, v) (w .fits);
         }
 
     -- the command that is read is one, so its orders are those that were given
-    pub command-put : {r : ℕ} {ys : List ℕ} → PutSegments (take k ts) cs ls r (part xs headSize) ys → PutCommand ts cs ls (headSize + r) old (back xs headSize ys)
+    pub command-put : {r : ℕ} {ys : List ℕ} → PutSegments (take last ts) cs ls r (part xs headSize) ys → PutCommand ts cs ls (headSize + r) old (back xs headSize ys)
     command-put p n c h =
         let is = (whole-is n c h) .1 in
         let own : o ≡ count c = w .counted ∙ ap count (ok-inj (sym ((whole-is (w .end) (w .c) (w .is)) .1) ∙ is)) in
-        rw (← own) (chained (headBytes o) (bodyBytes c) old (refl, v) (p (placeIn (getD ts k 0)) c is))
+        rw (← own) (chained (headBytes o) (bodyBytes c) old (refl, v) (p (placeIn (getD ts last 0)) c is))

@@ -172,7 +172,7 @@ fn put_segments(out: &mut [u8], toks: &[u64], contents: &[u8], bases: &[u8]) -> 
     p + put_blocks(&mut out[p..], toks, contents, bases, k + 1)
 }
 
-// The record of a command with so many orders: its head, and the segments behind it. Returns how many bytes it wrote.
+// The record of a command with so many orders: its head, and the segments behind it, which are the tokens before the `;`, the last one. Returns how many bytes it wrote.
 pub fn put_command(
     out: &mut [u8],
     toks: &[u64],
@@ -183,7 +183,7 @@ pub fn put_command(
     requires { ⌜ CommandFits (now toks) (now contents) (now bases) orders (length (now out)) ⌝ }
     ensures { λ r. ⌜ PutCommand (now (toks .entry)) (now (contents .entry)) (now (bases .entry)) r (now (out .entry)) (now (out .exit)) ⌝ }
 {
-    let k = token_table::find(toks, 0, token_table::SEMICOLON);
+    let end = toks.len() - 1;
     record_head::put_head(out, orders);
-    HEAD + put_segments(&mut out[HEAD..], &toks[..k], contents, bases)
+    HEAD + put_segments(&mut out[HEAD..], &toks[..end], contents, bases)
 }

@@ -7,9 +7,9 @@
 //               told   at the end one digit goes to descriptor 3, where the script reads it
 //               typed  the same, and a prompt stands on standard error before each line; of `keys`
 //                      the bytes are those of a terminal on which each key acts at once
-//     VERB      check, record, orders, list, order, has, keys, text or bases
-//     K         the order that `order` asks for; of `has` the place; of `keys` the columns of the
-//               terminal; the other verbs do not use it
+//     VERB      check, record, orders, list, order, has, place, keys, text or bases
+//     K         the order that `order` asks for; of `has` and `place` the place; of `keys` the columns
+//               of the terminal; the other verbs do not use it
 //     BASES     the base letters, perhaps none
 //     ARGUMENT  what `has` asks for; the other verbs do not use it
 //
@@ -17,6 +17,7 @@
 // are wrong, 3 input or output failed. No Rattle program ends with a status of its own.
 mod has;
 mod keys;
+mod place;
 mod verbs;
 
 ghost use mathlib.Core.Path.{_≡_};

@@ -12,6 +12,7 @@ pub fn serve(verb: Verb, bases: &[u8], line: &[u8], long: usize, room: &mut [u8]
     match verb {
         Verb::Text => serve_record(verb, line, long),
         Verb::Bases => serve_record(verb, line, long),
+        Verb::Place(place) => crate::place::serve(bases, line, place),
         _ => serve_command(verb, bases, line, room),
     }
 }

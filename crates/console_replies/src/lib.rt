@@ -75,7 +75,12 @@ fn write_line(bytes: &[u8]) -> bool {
 
 // Writes a record in hexadecimal.
 pub fn write_record(record: &[u8]) -> Outcome {
-    served(console_lines::write_hex(STDOUT_FILENO, record) && io::write_all(STDOUT_FILENO, b"\n"))
+    served(write_digits(record))
+}
+
+// Writes the bytes in hexadecimal, and a newline.
+fn write_digits(bytes: &[u8]) -> bool {
+    console_lines::write_hex(STDOUT_FILENO, bytes) && io::write_all(STDOUT_FILENO, b"\n")
 }
 
 // Writes that a command is accepted, its number of orders and its text.
@@ -131,6 +136,20 @@ fn write_place(place: u32) -> bool {
     io::write_all(STDOUT_FILENO, b" of place ")
         && io::print_decimal(STDOUT_FILENO, place as u64)
         && io::write_all(STDOUT_FILENO, b", counted from 0\n")
+}
+
+// Writes how many bytes the fields of a place have, from which byte of the record on, and the fields in hexadecimal.
+pub fn write_part(place: u32, from: u32, fields: &[u8]) -> Outcome {
+    served(
+        io::write_all(STDOUT_FILENO, b"place ")
+            && io::print_decimal(STDOUT_FILENO, place as u64)
+            && io::write_all(STDOUT_FILENO, b" is ")
+            && io::print_decimal(STDOUT_FILENO, fields.len() as u64)
+            && io::write_all(STDOUT_FILENO, b" bytes from byte ")
+            && io::print_decimal(STDOUT_FILENO, from as u64)
+            && io::write_all(STDOUT_FILENO, b" on, counted from 0: ")
+            && write_digits(fields),
+    )
 }
 
 // Shows the refusal of a line: of `check` it is a result, and of any other verb an error.

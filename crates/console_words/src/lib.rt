@@ -42,6 +42,7 @@ pub enum Verb {
     List,
     Order(u64),
     Has(u32),
+    Place(u32),
     Text,
     Bases,
 }
@@ -121,8 +122,8 @@ fn command_verb(word: &[u8], k: u64) -> Asked {
     if is(word, b"order") {
         return Asked::Commands(Verb::Order(k));
     }
-    if is(word, b"has") {
-        return has(k);
+    if is(word, b"has") || is(word, b"place") {
+        return place_verb(word, k);
     }
     if is(word, b"keys") {
         return Asked::Keys(k);
@@ -130,12 +131,15 @@ fn command_verb(word: &[u8], k: u64) -> Asked {
     record_verb(word)
 }
 
-// What `has` asks, of place k.
-fn has(k: u64) -> Asked {
+// What a verb on place k asks.
+fn place_verb(word: &[u8], k: u64) -> Asked {
     if LARGEST_PLACE < k {
         return complain();
     }
-    Asked::Commands(Verb::Has(k as u32))
+    if is(word, b"has") {
+        return Asked::Commands(Verb::Has(k as u32));
+    }
+    Asked::Commands(Verb::Place(k as u32))
 }
 
 // What a verb on records asks.

@@ -1,5 +1,5 @@
 -- The C interface's one number decides: number and value are its quotient and remainder by 2^32, since every call's value is below 2^32; so two results that meet
--- `Packs`, `PacksNumber` or `PacksKey` are equal.
+-- `Packs`, `PacksRow`, `PacksNumber` or `PacksKey` are equal.
 use Prim.Native.Nat.{ℕ, _+_, _*_, _/_, _%_, _^_, _<_}
 use mathlib.Core.Path.{_≡_, refl, sym, ap, _∙_}
 use mathlib.Core.List.{List, [], _∷_, map}
@@ -9,10 +9,12 @@ use Rattle.rules.specs.declared.Answer.{Answer}
 use Rattle.rules.specs.declared.Answer.the-variants.{Done, Refused}
 use Rattle.rules.specs.declared.Keeper.{Keeper}
 use Rattle.rules.specs.Refusals.{Res, mapR}
-use Rattle.rules.specs.Answers.{reading, printing, ordering, counting, listing, locating, answered, numberOf, valueOf}
+use Rattle.rules.specs.Commands.{Command}
+use Rattle.rules.specs.Records.{encode}
+use Rattle.rules.specs.Answers.{reading, printing, ordering, counting, listing, locating, readingRow, orderingRow, placing, answered, numberOf, valueOf}
 use Rattle.rules.specs.Keeping.{afterKey}
-use Rattle.rules.proofs.AnswersFit.{reading-most, printing-most, ordering-most, counting-most, listing-most, locating-most, pressing-most}
-use Rattle.mml.specs.Interface.{packed, Packs, PacksNumber, PacksKey}
+use Rattle.rules.proofs.AnswersFit.{reading-most, printing-most, ordering-most, counting-most, listing-most, locating-most, reading-row-most, ordering-row-most, placing-most, pressing-most}
+use Rattle.mml.specs.Interface.{packed, Packs, PacksRow, PacksNumber, PacksKey}
 
 -- answers and their numbers, worked out by hand: 17 times 4,294,967,296, and 4; the greatest value
 pub packed-are :
@@ -65,12 +67,29 @@ count-parts rec r p = packed-parts r (answered (counting rec)) p (omega (arith, 
 pub member-parts : (rec : List ℕ) (n : ℕ) (w : List ℕ) (r : ℕ) → n < 2 ^ 32 → PacksNumber (locating rec n w) r → Parts r (answered (locating rec n w))
 member-parts rec n w r h p = packed-parts r (answered (locating rec n w)) p (locating-most rec n w h)
 
+pub read-row-parts : (text letters old row : List ℕ) (r : ℕ) (new filled : List ℕ) → PacksRow (readingRow text letters old row) old row r new filled
+    → Parts r (answered (mapR (λ c. length (encode c)) (readingRow text letters old row)))
+read-row-parts text letters old row r new filled p =
+    packed-parts r (answered (mapR (λ c. length (encode c)) (readingRow text letters old row))) (p .answers) (omega (arith, reading-row-most text letters old row))
+
+pub order-row-parts : (rec : List ℕ) (k : ℕ) (old row : List ℕ) (r : ℕ) (new filled : List ℕ) → PacksRow (orderingRow rec k old row) old row r new filled
+    → Parts r (answered (mapR (λ c. length (encode c)) (orderingRow rec k old row)))
+order-row-parts rec k old row r new filled p =
+    packed-parts r (answered (mapR (λ c. length (encode c)) (orderingRow rec k old row))) (p .answers) (omega (arith, ordering-row-most rec k old row))
+
+pub place-parts : (rec row : List ℕ) (n r : ℕ) → n < 2 ^ 32 → PacksNumber (mapR length (placing rec row n)) r → Parts r (answered (mapR length (placing rec row n)))
+place-parts rec row n r h p = packed-parts r (answered (mapR length (placing rec row n))) p (placing-most rec row n h)
+
 pub key-parts : (k : Keeper) (c r : ℕ) (new : Keeper) → PacksKey k c r new → Parts r (afterKey k c .answer)
 key-parts k c r new p = packed-parts r (afterKey k c .answer) (p .answers) (omega (arith, pressing-most k c))
 
 -- "Any two results satisfying it are proved equal"
 pub packs-decided : (result : Res (List ℕ)) (old : List ℕ) (r s : ℕ) (new also : List ℕ) → Packs result old r new → Packs result old s also → (r ≡ s) × (new ≡ also)
 packs-decided result old r s new also p q = (p .answers ∙ sym (q .answers), p .holds ∙ sym (q .holds))
+
+pub row-decided : (result : Res Command) (old row : List ℕ) (r s : ℕ) (new also filled too : List ℕ) → PacksRow result old row r new filled → PacksRow result old row s also too
+    → (r ≡ s) × (new ≡ also) × (filled ≡ too)
+row-decided result old row r s new also filled too p q = (p .answers ∙ sym (q .answers), p .holds ∙ sym (q .holds), p .fills ∙ sym (q .fills))
 
 pub number-decided : (result : Res ℕ) (r s : ℕ) → PacksNumber result r → PacksNumber result s → r ≡ s
 number-decided result r s p q = p ∙ sym q

@@ -1,8 +1,10 @@
-// The public face: read, print, order, count, list, member and key, for Rattle and for C.
+// The public face: read, print, order, count, list, member, key, and the index of places: read_row, order_row and place, for Rattle and for C.
 ghost use mathlib.Core.Path.{_≡_};
-ghost use Rattle.rules.specs.Answers.{reading, printing, ordering, counting, listing, locating, Reads, Prints, Orders, Counts, Lists, Locates};
+ghost use lib.ListN.{length};
+ghost use Rattle.rules.specs.Refusals.{mapR};
+ghost use Rattle.rules.specs.Answers.{reading, printing, ordering, counting, listing, locating, readingRow, orderingRow, placing, Reads, Prints, Orders, Counts, Lists, Locates, ReadsRow, OrdersRow, Places, HandsBack};
 ghost use Rattle.rules.specs.Keeping.{afterKey};
-ghost use Rattle.mml.specs.Interface.{packed, Packs, PacksNumber, PacksKey, numbered};
+ghost use Rattle.mml.specs.Interface.{packed, Packs, PacksRow, PacksNumber, PacksKey, numbered};
 use rules::Answer;
 use rules::Keeper;
 use rules::Pressed;
@@ -50,6 +52,34 @@ pub fn member(rec: &[u8], place: u32, argument: &[u8]) -> Answer
     ensures { λ r. ⌜ Locates (now (rec .entry)) place (now (argument .entry)) r ⌝ }
 {
     member::member(rec, place, argument)
+}
+
+// Reads one MML command into a record, and the offsets of its places into a row.
+pub fn read_row(text: &[u8], bases: &[u8], out: &mut [u8], row: &mut [u32]) -> Answer
+    ensures { λ r. ⌜ ReadsRow (now (text .entry)) (now (bases .entry)) (now (out .entry)) (now (row .entry)) r (now (out .exit)) (now (row .exit)) ⌝ }
+{
+    reader::read_row(text, bases, out, row)
+}
+
+// Writes order number k of a record, and the offsets of its places into a row.
+pub fn order_row(rec: &[u8], k: u64, out: &mut [u8], row: &mut [u32]) -> Answer
+    ensures { λ r. ⌜ OrdersRow (now (rec .entry)) k (now (out .entry)) (now (row .entry)) r (now (out .exit)) (now (row .exit)) ⌝ }
+{
+    order::order_row(rec, k, out, row)
+}
+
+// How many bytes the fields of a record's place have, which begin where its row says.
+pub fn place(rec: &[u8], row: &[u32], number: u32) -> Answer
+    ensures { λ r. ⌜ Places (now (rec .entry)) (now (row .entry)) number r ⌝ }
+{
+    place_part::place(rec, row, number)
+}
+
+// The fields of a record's place as part of the record itself; an empty part where `place` refuses.
+pub fn part<'a, 'b>(rec: &'a [u8], row: &'b [u32], number: u32) -> &'a [u8]
+    ensures { λ r. ⌜ HandsBack (rec .entry) (now (row .entry)) number r ⌝ }
+{
+    place_part::part(rec, row, number)
 }
 
 // One key to a line keeper.
@@ -121,6 +151,33 @@ pub extern "C" fn mml_member(rec: &[u8], place: u32, argument: &[u8]) -> u64
 {
     let locating = member(rec, place, argument);
     pack(locating)
+}
+
+// `mml_read_row` of include/mml.h.
+#[no_mangle]
+pub extern "C" fn mml_read_row(text: &[u8], bases: &[u8], out: &mut [u8], row: &mut [u32]) -> u64
+    ensures { λ r. ⌜ PacksRow (readingRow (now (text .entry)) (now (bases .entry)) (now (out .entry)) (now (row .entry))) (now (out .entry)) (now (row .entry)) r (now (out .exit)) (now (row .exit)) ⌝ }
+{
+    let reading_row = read_row(text, bases, out, row);
+    pack(reading_row)
+}
+
+// `mml_order_row` of include/mml.h.
+#[no_mangle]
+pub extern "C" fn mml_order_row(rec: &[u8], k: u64, out: &mut [u8], row: &mut [u32]) -> u64
+    ensures { λ r. ⌜ PacksRow (orderingRow (now (rec .entry)) k (now (out .entry)) (now (row .entry))) (now (out .entry)) (now (row .entry)) r (now (out .exit)) (now (row .exit)) ⌝ }
+{
+    let ordering_row = order_row(rec, k, out, row);
+    pack(ordering_row)
+}
+
+// `mml_place` of include/mml.h.
+#[no_mangle]
+pub extern "C" fn mml_place(rec: &[u8], row: &[u32], number: u32) -> u64
+    ensures { λ r. ⌜ PacksNumber (mapR length (placing (now (rec .entry)) (now (row .entry)) number)) r ⌝ }
+{
+    let placing = place(rec, row, number);
+    pack(placing)
 }
 
 // A keeper after a key, and the answer as one number.

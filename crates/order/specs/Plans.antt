@@ -3,20 +3,29 @@
 use mathlib.Core.Path.{_≡_}
 use mathlib.Core.Bool.{Bool, true, false}
 use mathlib.Core.List.{List, [], _∷_, _++_, map}
-use Prim.Native.Nat.{ℕ, _+_, _/_, _%_, _≤_}
+use Prim.Native.Nat.{ℕ, _+_, _*_, _/_, _%_, _≤_, _<_}
 use lib.Dec.{eqb, ltb}
-use lib.ListN.{length, drop}
+use lib.ListN.{length, take, drop}
 use Rattle.laws.specs.Cases.{pick}
-use Rattle.rules.specs.Refusals.{ok, mostArguments}
+use Rattle.laws.specs.Over.{part}
+use Rattle.rules.specs.declared.Answer.{Answer}
+use Rattle.rules.specs.Refusals.{ok, bad, mostArguments}
+use Rattle.rules.specs.Answers.{orderOf, indexed, RowPromise}
+use Rattle.rules.specs.Orders.{count, orderAt}
 use Rattle.rules.specs.Commands.{Element, single, range, Place, place, Command, placeCount}
-use Rattle.rules.specs.Records.{fieldBytes, placeFields, rangeTag}
-use Rattle.rules.specs.WellFormed.{bodyOf}
+use Rattle.rules.specs.Records.{fieldBytes, placeFields, rangeTag, headSize, encode}
+use Rattle.rules.specs.Indexes.{offsets}
+use Rattle.rules.specs.WellFormed.{wellFormed, recordOf, bodyOf}
 use Rattle.record_walk.specs.Fronts.{tagOf}
 use Rattle.record_walk.specs.Runs.{bytesIn}
 use Rattle.record_walk.specs.Spans.{size, headFields}
+use Rattle.judge.specs.Judged.{perPlace, rowLength}
+use Rattle.index.specs.Rows.{Recorded}
 use Rattle.order_argument.specs.Terms.{moreTerms, argumentBytes}
 use Rattle.order_argument.specs.declared.Argument.{Argument}
-use Rattle.order.specs.Reduced.{positionsOf, Part, kept, placed, partsOf, Below, placesIn}
+use Rattle.order.specs.declared.Found.{Found}
+use Rattle.order.specs.declared.Found.the-variants.{Told, Refused as NotFound}
+use Rattle.order.specs.Reduced.{positionsOf, Part, kept, placed, partsOf, Below, placesIn, orderBytes}
 
 -- ---- what becomes of a value
 
@@ -65,6 +74,38 @@ pub record Planned (rec row : List ℕ) : Type 0 where
 pub record Plans (rec : List ℕ) (k : ℕ) (row : List ℕ) : Type 0 where
   pub planned : Planned rec row
   pub positions : positionsIn row ≡ positionsOf (map placeCount (placesIn (planned .tree))) k
+
+-- what is written of the order that the plan gives; the row has three numbers for each of its places
+abbrev pub PutsOrder : List ℕ → List ℕ → ℕ → List ℕ → Answer → List ℕ → Type 0
+PutsOrder rec row slots old r new =
+    (c : Command) → orderBytes rec (positionsIn row) ≡ encode c → length row ≡ perPlace * length (offsets c) → Recorded (ok c) slots old r new
+
+-- the plan gives this command's record, which is well formed
+pub record IsOrder (rec row : List ℕ) : Type 0 where
+  pub order : Command
+  pub bytes : orderBytes rec (positionsIn row) ≡ encode order
+  pub three : length row ≡ perPlace * length (offsets order)
+  pub well : wellFormed order ≡ true
+
+-- and the offsets with it
+abbrev pub PutsIndexed : List ℕ → List ℕ → List ℕ → List ℕ → Answer → List ℕ → List ℕ → Type 0
+PutsIndexed rec row old slots r new filled =
+    (c : Command) → orderBytes rec (positionsIn row) ≡ encode c → length row ≡ perPlace * length (offsets c) → wellFormed c ≡ true
+    → RowPromise (indexed (length old) (length slots) (ok c)) old slots r new filled
+
+-- the first n numbers of the row are the plan of order k
+pub record PlanIs (rec : List ℕ) (k : ℕ) (row : List ℕ) (n : ℕ) : Type 0 where
+  pub tree : Command
+  pub is : recordOf rec ≡ ok tree
+  pub below : k < count tree
+  pub inside : n ≤ length row
+  pub few : n ≤ rowLength
+  pub three : n ≡ perPlace * length (offsets (orderAt tree k))
+  pub plans : Plans (part rec headSize) k (take n row)
+
+abbrev pub IsPlan : List ℕ → ℕ → List ℕ → Found → Type 0
+IsPlan rec k row (Told n) = PlanIs rec k row n
+IsPlan rec k row (NotFound n p) = orderOf rec k ≡ bad n p
 
 -- ---- one place
 

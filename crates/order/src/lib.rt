@@ -1,13 +1,14 @@
-// Order k of a record by the direct rule, over the judge's row and from behind the record's head: each place's position, from the last place back; the length; the bytes.
+// Order k of a record by the direct rule, over the judge's row and from behind the record's head: each place's position, from the last place back; the length; the bytes, and the offsets of
+// its places into a lent row. Who wants no offsets has as many slots as there can be places. `put_order` has two callers, so it stays a function of its own, and its frame does not
+// stand on the stack while the record is judged.
 ghost use mathlib.Core.Path.{_≡_};
 ghost use Prim.Native.Nat.{_≤_};
-ghost use lib.ListN.{length};
+ghost use lib.ListN.{length, replicate};
 ghost use Rattle.laws.specs.Over.{over};
-ghost use Rattle.rules.specs.Refusals.{ok};
-ghost use Rattle.rules.specs.Answers.{fitted, Promise, Orders};
-ghost use Rattle.judge.specs.Judged.{Told};
+ghost use Rattle.rules.specs.Answers.{Orders, OrdersRow};
+ghost use Rattle.judge.specs.Judged.{rowLength, Told};
 ghost use Rattle.order.specs.Reduced.{reduced, orderBytes};
-ghost use Rattle.order.specs.Plans.{positionsIn, Planned, Plans, slotFor, goesOn, Within, changed};
+ghost use Rattle.order.specs.Plans.{positionsIn, Planned, Plans, slotFor, goesOn, Within, changed, PutsOrder, IsOrder, PutsIndexed, IsPlan};
 
 // Where in its three numbers the value's start stands.
 const START: usize = 1;
@@ -20,6 +21,12 @@ const KEPT: u16 = rules::MOST_ARGUMENTS as u16;
 
 // The number of orders that an order has: itself.
 const SOLE: u32 = 1;
+
+// What order k is: so many numbers of the row tell the positions of its places. Or the refusal.
+enum Found {
+    Told(usize),
+    Refused { no: u8, place: u32 },
+}
 
 // What becomes of a value: its place's position; a value without a choice stays as it is, if it is no range.
 fn position(rec: &[u8], value: usize, number: u16, left: u32) -> u16
@@ -155,34 +162,83 @@ fn put_whole(out: &mut [u8], rec: &[u8], row: &[u16]) -> usize
     record_head::HEAD + put_reduced(&mut out[record_head::HEAD..], rec, row)
 }
 
-// Writes that record; 17 with the bytes needed if the buffer is too short, which only a buffer shorter than the record can be.
-fn put_order(out: &mut [u8], rec: &[u8], row: &[u16]) -> rules::Answer
-    requires { ⌜ Planned (now rec) (now row) ⌝ }
-    ensures { λ r. ⌜ Promise (fitted (now (out .entry)) (ok (orderBytes (now (rec .entry)) (positionsIn (now (row .entry)))))) (now (out .entry)) r (now (out .exit)) ⌝ }
+// Writes that record; 17 with the bytes needed if the buffer is too short, which only a buffer shorter than the record can be, then 17 with the places if the slots are fewer.
+fn put_order(out: &mut [u8], rec: &[u8], row: &[u16], slots: usize) -> rules::Answer
+    requires { ⌜ Planned (now rec) (now row) × (length (now row) ≤ rowLength) ⌝ }
+    ensures { λ r. ⌜ PutsOrder (now (rec .entry)) (now (row .entry)) slots (now (out .entry)) r (now (out .exit)) ⌝ }
 {
-    if record_head::HEAD + rec.len() <= out.len() {
-        return rules::Answer::Done(put_whole(out, rec, row) as u32);
+    if out.len() < record_head::HEAD + rec.len() {
+        let need = whole_len(rec, row);
+        if out.len() < need {
+            return rules::Answer::Refused(rules::NO_ROOM, need as u32);
+        }
     }
-    let need = whole_len(rec, row);
-    if out.len() < need {
-        return rules::Answer::Refused(rules::NO_ROOM, need as u32);
+    let places = row.len() / judge::PER_PLACE;
+    if slots < places {
+        return rules::Answer::Refused(rules::NO_ROOM, places as u32);
     }
     rules::Answer::Done(put_whole(out, rec, row) as u32)
 }
 
-// Order k of a record: 18 if the record is not well formed, 19 with the count if k is not below it, 17 if the buffer is too short.
+// The same, and the offsets of its places into a lent row, from the record that was written.
+fn put_indexed(out: &mut [u8], rec: &[u8], row: &[u16], offsets: &mut [u32]) -> rules::Answer
+    requires { ⌜ Planned (now rec) (now row) × (length (now row) ≤ rowLength) × IsOrder (now rec) (now row) ⌝ }
+    ensures { λ r. ⌜ PutsIndexed (now (rec .entry)) (now (row .entry)) (now (out .entry)) (now (offsets .entry)) r (now (out .exit)) (now (offsets .exit)) ⌝ }
+{
+    match put_order(out, rec, row, offsets.len()) {
+        rules::Answer::Refused(no, place) => rules::Answer::Refused(no, place),
+        rules::Answer::Done(bytes) => {
+            index::fill(&out[..bytes as usize], offsets);
+            rules::Answer::Done(bytes)
+        }
+    }
+}
+
+// Each place's position in order k, in the row's front: 18 if the record is not well formed, 19 with the count if k is not below it.
+fn plan(rec: &[u8], k: u64, row: &mut [u16]) -> Found
+    requires { ⌜ now row ≡ replicate rowLength 0 ⌝ }
+    ensures { λ r. ⌜ IsPlan (now (rec .entry)) k (now (row .exit)) r ⌝ }
+{
+    let judge::Judged::Good { places, total } = judge::judge(rec, row) else {
+        return Found::Refused {
+            no: rules::NOT_WELL_FORMED,
+            place: 0,
+        };
+    };
+    if total as u64 <= k {
+        return Found::Refused {
+            no: rules::NO_SUCH_ORDER,
+            place: total,
+        };
+    }
+    let told = judge::PER_PLACE * places;
+    positions(&rec[record_head::HEAD..], &mut row[..told], k as u32);
+    Found::Told(told)
+}
+
+// Order k of a record.
 pub fn order(rec: &[u8], k: u64, out: &mut [u8]) -> rules::Answer
     ensures { λ r. ⌜ Orders (now (rec .entry)) k (now (out .entry)) r (now (out .exit)) ⌝ }
 {
     let mut row = [0u16; judge::ROW];
-    let judge::Judged::Good { places, total } = judge::judge(rec, &mut row) else {
-        return rules::Answer::Refused(rules::NOT_WELL_FORMED, 0);
-    };
-    if total as u64 <= k {
-        return rules::Answer::Refused(rules::NO_SUCH_ORDER, total);
+    match plan(rec, k, &mut row) {
+        Found::Refused { no, place } => rules::Answer::Refused(no, place),
+        Found::Told(told) => put_order(
+            out,
+            &rec[record_head::HEAD..],
+            &row[..told],
+            rules::MOST_PLACES,
+        ),
     }
-    let told = judge::PER_PLACE * places;
-    let body = &rec[record_head::HEAD..];
-    positions(body, &mut row[..told], k as u32);
-    put_order(out, body, &row[..told])
+}
+
+// Order k of a record, and the offsets of its places into a lent row.
+pub fn order_row(rec: &[u8], k: u64, out: &mut [u8], offsets: &mut [u32]) -> rules::Answer
+    ensures { λ r. ⌜ OrdersRow (now (rec .entry)) k (now (out .entry)) (now (offsets .entry)) r (now (out .exit)) (now (offsets .exit)) ⌝ }
+{
+    let mut row = [0u16; judge::ROW];
+    match plan(rec, k, &mut row) {
+        Found::Refused { no, place } => rules::Answer::Refused(no, place),
+        Found::Told(told) => put_indexed(out, &rec[record_head::HEAD..], &row[..told], offsets),
+    }
 }

@@ -8,6 +8,7 @@ use lib.ListN.{length, getD, take, drop, drop-of-length-le}
 use Rattle.laws.specs.Cases.{byBool}
 use Rattle.laws.specs.Lists.{next}
 use Rattle.rules.specs.Commands.{command, split, cutAt, pieces}
+use Rattle.rules.specs.Indexes.{offsets}
 use Rattle.rules.specs.Orders.{count}
 use Rattle.rules.specs.Reading.{Placed, placed, PlacedBlock, placedBlock, blockOf, readBlocks, runningBlocks, readSegs, readCut}
 use Rattle.rules.specs.Records.{field, headSize, encode, many, blockFields}
@@ -17,6 +18,7 @@ use Rattle.rules.specs.Units.{Base, isIdentifier}
 use Rattle.rules.proofs.CommandBack.{count-all}
 use Rattle.rules.proofs.ReadSound.{runningB-is}
 use Rattle.rules.proofs.ResultLaws.{byRes}
+use Rattle.rules.proofs.RowPoints.{offsets-many}
 use Rattle.token_table.specs.Table.{placeIn, tokensIn}
 use Rattle.token_table.specs.declared.Verdict.{Verdict}
 use Rattle.token_table.specs.declared.Verdict.the-variants.{Fine as Good, Refused as Bad}
@@ -32,7 +34,7 @@ use Rattle.read_command.specs.declared.Tallied.{Tallied}
 use Rattle.read_command.specs.declared.Tallied.the-variants.{Fine}
 use Rattle.read_command.specs.declared.Checked.{Checked}
 use Rattle.read_command.specs.declared.Checked.the-variants.{Refused as Wrong}
-use Rattle.read_command.proofs.TallyLaws.{ordersOf, orders-blocks, bytes-blocks, blocksSize}
+use Rattle.read_command.proofs.TallyLaws.{places-blocks, ordersOf, orders-blocks, bytes-blocks, blocksSize}
 
 -- ---- the tally of a whole command
 
@@ -57,6 +59,10 @@ orders-are c xs n h =
     let bs = map blockOf xs in
     omega (arith, (runningB-is 1 xs n (omega arith) h) .0, count-all bs)
 
+-- one offset for each place
+places-are : (c : List (List ℕ)) (xs : List PlacedBlock) (z : ℕ) → (tallyBlocks (begun z) xs) .places ≡ length (offsets (command c (map blockOf xs)))
+places-are c xs z = omega (arith, places-blocks (begun z) xs, offsets-many c (map blockOf xs))
+
 tally-end : (c : List (List ℕ)) (xs : List PlacedBlock) (z : ℕ) → z ≡ capped (headSize + wordsSize c)
     → tallyRead (Fine (tallyBlocks (begun z) xs)) ≡ commandRead (runningBlocks 1 xs >>= λ _. ok (command c (map blockOf xs)))
 tally-end c xs z h =
@@ -71,7 +77,7 @@ tally-end c xs z h =
     let s : t .bytes ≡ capped (length (encode (command c (map blockOf xs))))
     = sym (cap-small (t .bytes) (small-blocks (begun z) xs (cap-most (headSize + wordsSize c) h))) ∙ bytes-blocks (begun z) xs
     ∙ rw (h, cap-cap (headSize + wordsSize c) (blocksSize xs), code-size c xs) in
-    rw (y, r, s, orders-are c xs (t .product) r))
+    rw (y, r, s, orders-are c xs (t .product) r, places-are c xs z))
 
 -- ---- the code and the blocks
 

@@ -5,9 +5,9 @@ use mathlib.Core.Bool.{Bool, cond}
 use mathlib.Core.List.{List, [], _∷_, map}
 use native.Mathlib.Omega.{arith}
 use lib.Dec.{leb}
-use lib.ListN.{length}
+use lib.ListN.{length, length-append, length-map}
 use Rattle.laws.specs.Cases.{byBool}
-use Rattle.rules.specs.Commands.{Place, placeCount}
+use Rattle.rules.specs.Commands.{Place, placeCount, allPlaces}
 use Rattle.rules.specs.Reading.{Placed, placed, unplaced, PlacedBlock, placedBlock, blockOf, running, runningBlocks}
 use Rattle.rules.specs.Records.{bytesOf, many, placeFields, blockFields}
 use Rattle.rules.specs.Refusals.{Res, ok, bad, _>>=_, tooManyOrders}
@@ -23,6 +23,12 @@ use Rattle.read_command.specs.declared.Tally.{Tally}
 pub places-length : (t : Tally) (xs : List Placed) → (tallyPlaces t xs) .places ≡ t .places + length xs
 places-length t [] = omega arith
 places-length t (placed p x ∷ xs) = places-length (counted t (placeCount x) p (capped (placeSize x))) xs ∙ omega arith
+
+pub places-blocks : (t : Tally) (bs : List PlacedBlock) → (tallyBlocks t bs) .places ≡ t .places + length (allPlaces (map blockOf bs))
+places-blocks t [] = omega arith
+places-blocks t (placedBlock k xs ∷ bs) =
+    places-blocks (tallyPlaces (opened t) xs) bs
+    ∙ omega (arith, places-length (opened t) xs, length-append (map unplaced xs) (allPlaces (map blockOf bs)), length-map xs unplaced)
 
 -- ---- the running product
 

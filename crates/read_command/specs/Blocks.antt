@@ -6,6 +6,7 @@ use mathlib.Core.List.{List, [], _∷_}
 use lib.Dec.{leb}
 use lib.ListN.{length}
 use Rattle.rules.specs.Commands.{Command, placeCount, split}
+use Rattle.rules.specs.Indexes.{offsets}
 use Rattle.rules.specs.Orders.{count}
 use Rattle.rules.specs.Reading.{Placed, placed, PlacedBlock, placedBlock, kindOf}
 use Rattle.rules.specs.Records.{encode}
@@ -62,11 +63,11 @@ blocksRead t (bad n p) = Refused n p
 
 -- 16 at the end
 abbrev pub tallyRead : Tallied → Checked
-tallyRead (Fine t) = cond (t .over) (Wrong tooManyOrders (t .at)) (Right (t .bytes) (t .product))
+tallyRead (Fine t) = cond (t .over) (Wrong tooManyOrders (t .at)) (Right (t .bytes) (t .product) (t .places))
 tallyRead (Refused n p) = Wrong n p
 
 abbrev pub commandRead : Res Command → Checked
-commandRead (ok c) = Right (capped (length (encode c))) (count c)
+commandRead (ok c) = Right (capped (length (encode c))) (count c) (length (offsets c))
 commandRead (bad n p) = Wrong n p
 
 -- the block's kind, whatever the contents are

@@ -45,10 +45,17 @@ pub enum Tallied {
     Refused { no: u8, place: u32 },
 }
 
-// A command that is right: the bytes of its record, and the number of its orders. Or a refusal.
+// A command that is right: the bytes of its record, the number of its orders, and that of its places. Or a refusal.
 pub enum Checked {
-    Fine { bytes: u32, orders: u32 },
-    Refused { no: u8, place: u32 },
+    Fine {
+        bytes: u32,
+        orders: u32,
+        places: usize,
+    },
+    Refused {
+        no: u8,
+        place: u32,
+    },
 }
 
 // The tally with one place more.
@@ -213,6 +220,7 @@ fn finish(blocks: Tallied) -> Checked
             Checked::Fine {
                 bytes: t.bytes,
                 orders: t.product,
+                places: t.places,
             }
         }
     }
@@ -241,7 +249,7 @@ fn segments(toks: &[u64], contents: &[u8], bases: &[u8], end: u32) -> Checked
     }
 }
 
-// A whole command of `len` bytes, from its tokens: all of 6 to 16, the bytes of its record and the number of its orders.
+// A whole command of `len` bytes, from its tokens: all of 6 to 16, the bytes of its record, the number of its orders and that of its places.
 pub fn command(toks: &[u64], contents: &[u8], bases: &[u8], len: u32) -> Checked
     ensures { λ r. ⌜ r ≡ commandRead (readCut (basesIn (now (bases .entry))) len (cutAt semi (tokensIn (now (contents .entry)) (now (toks .entry))))) ⌝ }
 {

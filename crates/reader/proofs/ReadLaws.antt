@@ -3,23 +3,27 @@ use mir.Syntax.{w32}
 use mir.Val.{Fits}
 use Prim.Native.Nat.{ℕ, _≤_, _<_, _^_}
 use mathlib.Core.Path.{_≡_, refl, sym, ap, _∙_, subst}
+use mathlib.Core.Bool.{true}
 use mathlib.Core.List.{List}
 use native.Mathlib.Omega.{arith}
 use borrow.Author.Tests.{le-leb, lt-leb}
 use lib.ListN.{length, take}
 use Rattle.rules.specs.declared.Answer.{Answer}
 use Rattle.rules.specs.declared.Answer.the-variants.{Done, Refused}
-use Rattle.rules.specs.Answers.{fitted, reading, Promise, Reads}
+use Rattle.rules.specs.Answers.{reading, readingRow, Reads, ReadsRow}
 use Rattle.rules.specs.Commands.{Command, cutAt}
+use Rattle.rules.specs.Indexes.{offsets}
 use Rattle.rules.specs.Orders.{count}
 use Rattle.rules.specs.Reading.{readCut, readLetters, read}
 use Rattle.rules.specs.Records.{encode}
-use Rattle.rules.specs.Refusals.{Res, ok, bad, mapR}
+use Rattle.rules.specs.Refusals.{Res, ok, bad, mostPlaces}
+use Rattle.rules.specs.WellFormed.{wellFormed}
 use Rattle.rules.specs.Tokens.{semi, scan, idle, run, firstOff}
-use Rattle.rules.proofs.ReadSound.{cut-ok, cut-wf}
+use Rattle.rules.proofs.ReadSound.{cut-ok, cut-wf, read-wf}
 use Rattle.rules.proofs.RecordBound.{record-bound}
 use Rattle.rules.proofs.RefusalPlaces.{Comes, Whatever, Before, bind-comes, comes-bad, off-comes, run-comes}
 use Rattle.rules.proofs.ResultLaws.{byRes}
+use Rattle.rules.proofs.RowPoints.{offsets-most}
 use Rattle.rules.proofs.ScanSound.{scan-ok}
 use Rattle.token_table.specs.Table.{tokensIn, verdict}
 use Rattle.token_table.specs.declared.Verdict.{Verdict}
@@ -36,17 +40,19 @@ use Rattle.command_fields.specs.Recorder.{CommandFits, PutCommand}
 use Rattle.scan.specs.declared.Filled.{Filled}
 use Rattle.scan.specs.declared.Filled.the-variants.{Done as Filling, Refused as NotFilled}
 use Rattle.scan.specs.Filled.{Holds, IsFilled}
-use Rattle.reader.specs.Reader.{TokensOf, commandOf, Records, RecordsText}
+use Rattle.index.specs.Rows.{Indexable, Fills, Recorded}
+use Rattle.index.proofs.CallLaws.{no-room, no-slots, both-fit, Sound, without-row, row-refused as refused-row, row-cut as cut-row, row-fits as fits-row, row-done as done-row}
+use Rattle.reader.specs.Reader.{TokensOf, commandOf, Records, RecordsText, ReadsFor}
 
 -- ---- results
 
-refused : (old : List ℕ) (r : Res Command) (n p : ℕ) → r ≡ bad n p → Promise (fitted old (mapR encode r)) old (Refused n p) old
-refused old r n p e = rw e (record { answers = refl; holds = refl })
+refused : (slots : ℕ) (old : List ℕ) (r : Res Command) (n p : ℕ) → r ≡ bad n p → Recorded r slots old (Refused n p) old
+refused slots old r n p e = rw e (record { answers = refl; holds = refl })
 
 -- ---- from tokens
 
-module _ (ts cs ls : List ℕ) (n : ℕ) (old : List ℕ) where
-  pub tokens-refused : (m p : ℕ) {x : Checked} → x ≡ commandRead (readCut (basesIn ls) n (cutAt semi (tokensIn cs ts))) → x ≡ Wrong m p → Records ts cs ls n old (Refused m p) old
+module _ (ts cs ls : List ℕ) (n slots : ℕ) (old : List ℕ) where
+  pub tokens-refused : (m p : ℕ) {x : Checked} → x ≡ commandRead (readCut (basesIn ls) n (cutAt semi (tokensIn cs ts))) → x ≡ Wrong m p → Records ts cs ls n slots old (Refused m p) old
   tokens-refused m p q h =
       let r = readCut (basesIn ls) n (cutAt semi (tokensIn cs ts)) in
       byRes r
@@ -54,59 +60,64 @@ module _ (ts cs ls : List ℕ) (n : ℕ) (old : List ℕ) where
       let w : _≡_ {A = ℕ} 0 1 = cc in absurd (omega arith))
       (λ k o y. let z : Wrong m p ≡ Wrong k o = sym h ∙ q ∙ ap commandRead y in
       let i : k ≡ m = cc in let j : o ≡ p = cc in
-      refused old r m p (rw (i, j) at y))
+      refused slots old r m p (rw (i, j) at y))
 
-  -- a command that is right, the bytes of its record and the number of its orders
-  record IsRight (z o : ℕ) : Type 0 where
+  -- a command that is right, the bytes of its record, the number of its orders and that of its places
+  record IsRight (z o s : ℕ) : Type 0 where
     c : Command
     is : readCut (basesIn ls) n (cutAt semi (tokensIn cs ts)) ≡ ok c
     size : z ≡ length (encode c)
     counted : o ≡ count c
+    places : s ≡ length (offsets c)
+    few : s ≤ 32
 
-  short-is : (z o : ℕ) (w : IsRight z o) → length old < z → Records ts cs ls n old (Refused 17 z) old
-  short-is z o w h =
-      let g = lt-leb (length (encode (w .c))) (length old) (omega (arith, w .size)) in
-      record { answers = rw (w .is, g, w .size); holds = rw (w .is, g) }
-
-  done-is : (z o : ℕ) (w : IsRight z o) → z ≤ length old → {r : ℕ} {new : List ℕ} → PutCommand ts cs ls r old new → Records ts cs ls n old (Done r) new
-  done-is z o w h p =
-      let g = le-leb (length (encode (w .c))) (length old) (omega (arith, w .size)) in
-      let v = p n (w .c) (w .is) in
-      record { answers = rw (w .is, g, v .0); holds = rw (w .is, g) (v .1) }
-
-  module _ (z o : ℕ) {x : Checked} (w : TokensOf ts cs) (q : x ≡ commandRead (readCut (basesIn ls) n (cutAt semi (tokensIn cs ts)))) (h : x ≡ Right z o) where
-    right : IsRight z o
+  module _ (z o m : ℕ) {x : Checked} (w : TokensOf ts cs) (q : x ≡ commandRead (readCut (basesIn ls) n (cutAt semi (tokensIn cs ts)))) (h : x ≡ Right z o m) where
+    right : IsRight z o m
     right =
         let t = tokensIn cs ts in
         byRes (readCut (basesIn ls) n (cutAt semi t))
         (λ c y.
-        let u : Right z o ≡ Right (capped (length (encode c))) (count c) = sym h ∙ q ∙ ap commandRead y in
+        let u : Right z o m ≡ Right (capped (length (encode c))) (count c) (length (offsets c)) = sym h ∙ q ∙ ap commandRead y in
         let v : z ≡ capped (length (encode c)) = cc in
         let g : o ≡ count c = cc in
-        let k = record-bound c (cut-wf (basesIn ls) n (cutAt semi t) c (cut-ok semi t (scan-ok (w .text) t (w .is))) y) in
-        record { c = c; is = y; size = v ∙ cap-small (length (encode c)) (omega arith); counted = g })
-        (λ k p y. let u : Right z o ≡ Wrong k p = sym h ∙ q ∙ ap commandRead y in
+        let p : m ≡ length (offsets c) = cc in
+        let well : wellFormed c ≡ true = cut-wf (basesIn ls) n (cutAt semi t) c (cut-ok semi t (scan-ok (w .text) t (w .is))) y in
+        let k = record-bound c well in
+        record { c = c; is = y; size = v ∙ cap-small (length (encode c)) (omega arith); counted = g; places = p; few = omega (arith, offsets-most c well) })
+        (λ k p y. let u : Right z o m ≡ Wrong k p = sym h ∙ q ∙ ap commandRead y in
         let w : _≡_ {A = ℕ} 0 1 = cc in absurd (omega arith))
 
     -- 17
-    pub tokens-short : length old < z → Records ts cs ls n old (Refused 17 z) old
-    tokens-short s = short-is z o right s
+    pub tokens-short : length old < z → Records ts cs ls n slots old (Refused 17 z) old
+    tokens-short s = rw (right .is) (no-room (right .c) slots old (right .size) s)
+
+    pub tokens-slots : Fits w32 m
+    tokens-slots = omega (arith, right .few)
 
     module _ (s : z ≤ length old) where
-      pub tokens-fit : CommandFits ts cs ls o (length old)
-      tokens-fit = record { end = n; c = right .c; is = right .is; counted = right .counted; fits = omega (arith, right .size) }
+      room : length (encode (right .c)) ≤ length old
+      room = omega (arith, right .size)
 
-      pub tokens-done : {r : ℕ} {new : List ℕ} → PutCommand ts cs ls r old new → Records ts cs ls n old (Done r) new
-      tokens-done p = done-is z o right s p
+      -- 17 of the row
+      pub tokens-few : slots < m → Records ts cs ls n slots old (Refused 17 m) old
+      tokens-few k = rw (right .is) (no-slots (right .c) slots old room (right .places) k)
+
+      pub tokens-fit : CommandFits ts cs ls o (length old)
+      tokens-fit = record { end = n; c = right .c; is = right .is; counted = right .counted; fits = room }
+
+      pub tokens-done : {r : ℕ} {new : List ℕ} → m ≤ slots → PutCommand ts cs ls r old new → Records ts cs ls n slots old (Done r) new
+      tokens-done k p =
+          let v = p n (right .c) (right .is) in
+          rw (right .is) (both-fit (right .c) slots old room (omega (arith, right .places)) (v .0) (v .1))
 
     pub tokens-answer : {r : ℕ} {new : List ℕ} → PutCommand ts cs ls r old new → z < 2 ^ 32 → Fits w32 r
     tokens-answer p g = omega (arith, p n (right .c) (right .is) .0, right .size)
 
 -- ---- from the text
 
-pub text-long : (s ls old : List ℕ) → 1024 < length s → RecordsText s ls old (Refused 2 1024) old
+pub text-long : (s ls : List ℕ) (slots : ℕ) (old : List ℕ) → 1024 < length s → RecordsText s ls slots old (Refused 2 1024) old
 unfolding scan
-text-long s ls old h = refused old (commandOf ls (length s) (scan s)) 2 1024 (rw (lt-leb (length s) 1024 h, scan))
+text-long s ls slots old h = refused slots old (commandOf ls (length s) (scan s)) 2 1024 (rw (lt-leb (length s) 1024 h, scan))
 
 -- a text that is not too long is refused inside
 refused-inside : (s : List ℕ) (n p : ℕ) → length s ≤ 1024 → scan s ≡ bad n p → p < length s
@@ -127,8 +138,8 @@ module _ (s ts cs : List ℕ) {x : Filled} (f : IsFilled (scan s) ts cs x) where
     pub refused-place : length s ≤ 1024 → Fits w32 p
     refused-place h = omega (arith, refused-inside s n p h its-refusal)
 
-    pub text-refused : (ls old : List ℕ) → RecordsText s ls old (Refused n p) old
-    text-refused ls old = refused old (commandOf ls (length s) (scan s)) n p (rw its-refusal)
+    pub text-refused : (ls : List ℕ) (slots : ℕ) (old : List ℕ) → RecordsText s ls slots old (Refused n p) old
+    text-refused ls slots old = refused slots old (commandOf ls (length s) (scan s)) n p (rw its-refusal)
 
   module _ {n m : ℕ} (e : x ≡ Filling n m) where
     its-tokens : Holds (scan s) ts cs n m
@@ -140,19 +151,47 @@ module _ (s ts cs : List ℕ) {x : Filled} (f : IsFilled (scan s) ts cs x) where
     pub filled-tokens : TokensOf (take n ts) cs
     filled-tokens = record { text = s; is = its-tokens .is }
 
-    pub text-filled : (ls old : List ℕ) {r : Answer} {new : List ℕ} → Records (take n ts) cs ls (length s) old r new → RecordsText s ls old r new
-    text-filled ls old p = rw (its-tokens .is) p
+    pub text-filled : (ls : List ℕ) (slots : ℕ) (old : List ℕ) {r : Answer} {new : List ℕ} → Records (take n ts) cs ls (length s) slots old r new
+        → RecordsText s ls slots old r new
+    text-filled ls slots old p = rw (its-tokens .is) p
 
 -- ---- the whole
 
-pub read-refused : (s ls old : List ℕ) (n p : ℕ) {v : Verdict} → v ≡ verdict (readLetters 0 ls) → v ≡ Bad n p → Reads s ls old (Refused n p) old
-unfolding reading read
-read-refused s ls old n p q h = refused old (read ls s) n p (rw (verdict-bad (readLetters 0 ls) n p (sym q ∙ h)))
+pub read-refused : (s ls : List ℕ) (slots : ℕ) (old : List ℕ) (n p : ℕ) {v : Verdict} → v ≡ verdict (readLetters 0 ls) → v ≡ Bad n p → ReadsFor s ls slots old (Refused n p) old
+unfolding read
+read-refused s ls slots old n p q h = refused slots old (read ls s) n p (rw (verdict-bad (readLetters 0 ls) n p (sym q ∙ h)))
 
-pub read-text : (s ls old : List ℕ) {v : Verdict} {r : Answer} {new : List ℕ} → v ≡ verdict (readLetters 0 ls) → v ≡ Good → RecordsText s ls old r new → Reads s ls old r new
-unfolding reading read
-read-text s ls old {v} {r} {new} q h p =
+pub read-text : (s ls : List ℕ) (slots : ℕ) (old : List ℕ) {v : Verdict} {r : Answer} {new : List ℕ} → v ≡ verdict (readLetters 0 ls) → v ≡ Good → RecordsText s ls slots old r new
+    → ReadsFor s ls slots old r new
+unfolding read
+read-text s ls slots old {v} {r} {new} q h p =
     verdict-ok (readLetters 0 ls) (sym q ∙ h)
     (λ bs a.
     let e : read ls s ≡ commandOf ls (length s) (scan s) = rw (a, letters-are 0 ls bs a) in
-    subst (λ (x : Res Command). Promise (fitted old (mapR encode x)) old r new) (sym e) p)
+    subst (λ (x : Res Command). Recorded x slots old r new) (sym e) p)
+
+-- what is read is well formed
+read-sound : (s ls : List ℕ) → Sound (read ls s)
+read-sound s ls c e = read-wf ls s c e
+
+pub read-plain : (s ls old : List ℕ) {r : Answer} {new : List ℕ} → ReadsFor s ls mostPlaces old r new → Reads s ls old r new
+unfolding reading
+read-plain s ls old p = without-row (read ls s) old (read-sound s ls) p
+
+-- ---- with a row
+
+module _ (s ls old row : List ℕ) {r : Answer} {new : List ℕ} (q : ReadsFor s ls (length row) old r new) where
+  pub row-refused : {n p : ℕ} → r ≡ Refused n p → ReadsRow s ls old row (Refused n p) new row
+  unfolding readingRow
+  row-refused e = refused-row (read ls s) old row q e
+
+  module _ {n : ℕ} (e : r ≡ Done n) where
+    pub row-cut : n ≤ length new
+    row-cut = cut-row (read ls s) old row q e
+
+    pub row-fits : Indexable (take n new) (length row)
+    row-fits = fits-row (read ls s) old row q e (read-sound s ls)
+
+    pub row-done : {filled : List ℕ} → Fills (take n new) row filled → ReadsRow s ls old row (Done n) new filled
+    unfolding readingRow
+    row-done f = done-row (read ls s) old row q e (read-sound s ls) f

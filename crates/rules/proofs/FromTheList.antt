@@ -7,7 +7,7 @@ use mathlib.Core.Option.{Option, none, some}
 use native.Mathlib.Omega.{arith}
 use lib.Dec.{eqb, leb, ltb}
 use lib.ListN.{length}
-use borrow.Author.Tests.{leb-true, leb-false, ltb-false, not-true, not-false}
+use borrow.Author.Tests.{leb-true, leb-false, ltb-true, ltb-false, not-true, not-false}
 use Rattle.laws.specs.Cases.{pick-if, byBool, and-l}
 use Rattle.laws.specs.Keys.{anyOf}
 use Rattle.laws.specs.Lists.{eqL, isNil}
@@ -23,7 +23,8 @@ use Rattle.rules.specs.Printing.{print}
 use Rattle.rules.specs.Orders.{orderAt, count}
 use Rattle.rules.specs.Listing.{listBytes}
 use Rattle.rules.specs.Positions.{placeOf, argumentOf, isGiven, located}
-use Rattle.rules.specs.Answers.{fitted, reading, printing, ordering, counting, listing, locating}
+use Rattle.rules.specs.Indexes.{offsets, placeBytes, agreeing}
+use Rattle.rules.specs.Answers.{fitted, reading, printing, orderOf, ordering, counting, listing, locating, indexed, readingRow, orderingRow, placing}
 use Rattle.rules.specs.Keeping.{ready, held, found, stored, pressing}
 use Rattle.rules.proofs.CountIsField.{count-most, field-is, counted}
 use Rattle.rules.proofs.EncodeDecode.{record-is}
@@ -31,7 +32,9 @@ use Rattle.rules.proofs.LocateCall.{Given, given-back, value-fine, loca
 use Rattle.rules.proofs.OrderWellFormed.{order-wf}
 use Rattle.rules.proofs.ReadSound.{read-wf}
 use Rattle.rules.proofs.RecordBound.{record-bound}
-use Rattle.rules.proofs.RefusalPlaces.{Comes, Whatever, comes-more, bind-comes, map-comes, guard-comes, comes-bad, comes-self, Before, cut-in, off-comes, run-comes, cut-comes, letters-come}
+use Rattle.rules.proofs.RefusalPlaces.{Comes, Whatever, comes-more, comes-as, bind-comes, map-comes, guard-comes, comes-bad, comes-self, Before, cut-in, off-comes, run-comes, cut-comes, letters-come}
+use Rattle.rules.proofs.RowCalls.{place-small}
+use Rattle.rules.proofs.RowPoints.{offsets-most}
 
 -- ---- the lists
 
@@ -75,6 +78,22 @@ pub data LocateRefuses (r : List ℕ) (n : ℕ) (w : List ℕ) : ℕ → ℕ →
   notWellFormed : LocateRefuses r n w 18 0
   noSuchPlace : {c : Command} → recordOf r ≡ ok c → isNil (placeValue (placeOf c n)) ≡ true → LocateRefuses r n w 26 n
   wrongArgument : {c : Command} → recordOf r ≡ ok c → isNil (placeValue (placeOf c n)) ≡ false → (Given (placeBase (placeOf c n)) w → ⊥) → LocateRefuses r n w 27 0
+
+-- M-108: what the reader refuses, and "17 if the row is too short (place the slots needed)"; a command has at most 32 places
+pub data ReadRowRefuses (letters text old row : List ℕ) : ℕ → ℕ → Type 0 where
+  asReader : {n p : ℕ} → ReaderRefuses letters text old n p → ReadRowRefuses letters text old row n p
+  noSlots : {p : ℕ} → length row < p → p ≤ 32 → ReadRowRefuses letters text old row 17 p
+
+-- the same of order k
+pub data OrderRowRefuses (r : List ℕ) (k : ℕ) (old row : List ℕ) : ℕ → ℕ → Type 0 where
+  asOrder : {n p : ℕ} → OrderRefuses r k old n p → OrderRowRefuses r k old row n p
+  noSlots : {p : ℕ} → length row < p → p ≤ 32 → OrderRowRefuses r k old row 17 p
+
+-- M-108: "18, then 28 where the row is shorter than the places or a slot differs (place the first such slot), then 26 for no such place", its place the asked number
+pub data PlaceRefuses (r row : List ℕ) (n : ℕ) : ℕ → ℕ → Type 0 where
+  notWellFormed : PlaceRefuses r row n 18 0
+  wrongRow : {c : Command} {p : ℕ} → recordOf r ≡ ok c → p < length (offsets c) → PlaceRefuses r row n 28 p
+  noSuchPlace : {c : Command} → recordOf r ≡ ok c → length (offsets c) ≤ n → PlaceRefuses r row n 26 n
 
 -- M-100: "20, a key to be held when 1,024 bytes of a line not ready are held, or any key to a keeper whose count passes 1,024, place 1,024"
 pub data KeyRefuses (k : Keeper) (c : ℕ) : ℕ → ℕ → Type 0 where
@@ -174,21 +193,23 @@ printing-comes r old =
 pub printer-list : (r old : List ℕ) (n p : ℕ) → printing r old ≡ bad n p → PrinterRefuses old n p
 printer-list r old n p e = comes-bad (PrinterRefuses old) Text (printing r old) n p (printing-comes r old) e
 
--- what order k has to write
-abbrev toOrder : List ℕ → ℕ → Res (List ℕ)
-toOrder r k = recordOf r >>= λ c. guard (ltb k (count c)) 19 (count c) >>= λ _. ok (encode (orderAt c k))
+-- order k of what is judged is well formed, or refused: 18 at 0, 19 at the count
+pub order-comes : (P : ℕ → ℕ → Type 0) (r : List ℕ) (k : ℕ) → P 18 0 → ((p : ℕ) → counting r ≡ ok p → p ≤ k → P 19 p)
+    → Comes P (λ c. wellFormed c ≡ true) (orderOf r k)
+order-comes P r k h g =
+    bind-comes P (λ c. recordOf r ≡ ok c) (λ c. wellFormed c ≡ true) (recordOf r) _
+    (comes-self P (λ c. wellFormed c ≡ true) (recordOf r) (record-comes P r h))
+    (λ c x.
+    guard-comes P (λ d. wellFormed d ≡ true) (ltb k (count c)) 19 (count c) (λ _. ok (orderAt c k))
+    (λ y. g (count c) (counted r c x) (omega (arith, ltb-false k (count c) y)))
+    (λ y. order-wf c k ((record-is r c x) .well)))
 
 pub ordering-comes : (r : List ℕ) (k : ℕ) (old : List ℕ) → Comes (OrderRefuses r k old) Record (ordering r k old)
 unfolding ordering
 ordering-comes r k old =
-    fitted-comes (OrderRefuses r k old) Record old (toOrder r k)
-    (bind-comes (OrderRefuses r k old) (λ c. recordOf r ≡ ok c) Record (recordOf r)
-    (λ c. guard (ltb k (count c)) 19 (count c) >>= λ _. ok (encode (orderAt c k)))
-    (comes-self (OrderRefuses r k old) (λ c. wellFormed c ≡ true) (recordOf r) (record-comes (OrderRefuses r k old) r notWellFormed))
-    (λ c x.
-    guard-comes (OrderRefuses r k old) Record (ltb k (count c)) 19 (count c) (λ _. ok (encode (orderAt c k)))
-    (λ y. noSuchOrder (counted r c x) (omega (arith, ltb-false k (count c) y)))
-    (λ y. record-bound (orderAt c k) (order-wf c k ((record-is r c x) .well)))))
+    fitted-comes (OrderRefuses r k old) Record old (mapR encode (orderOf r k))
+    (map-comes (OrderRefuses r k old) (λ c. wellFormed c ≡ true) Record encode (orderOf r k)
+    (order-comes (OrderRefuses r k old) r k notWellFormed (λ p e h. noSuchOrder e h)) (λ c q. record-bound c q))
     (λ w q h. noRoom h q)
 
 pub order-list : (r : List ℕ) (k : ℕ) (old : List ℕ) (n p : ℕ) → ordering r k old ≡ bad n p → OrderRefuses r k old n p
@@ -241,6 +262,63 @@ locating-comes r n w =
 
 pub locate-list : (r : List ℕ) (n : ℕ) (w : List ℕ) (nr p : ℕ) → locating r n w ≡ bad nr p → LocateRefuses r n w nr p
 locate-list r n w nr p e = comes-bad (LocateRefuses r n w) Located (locating r n w) nr p (locating-comes r n w) e
+
+-- ---- the calls with a row
+
+-- 17 of the record, then 17 of the row
+indexed-comes : (P : ℕ → ℕ → Type 0) (Q : Command → Type 0) (room slots : ℕ) (r : Res Command) → Comes P Q r
+    → ((c : Command) → Q c → room < length (encode c) → P 17 (length (encode c)))
+    → ((c : Command) → Q c → slots < length (offsets c) → P 17 (length (offsets c))) → Comes P Q (indexed room slots r)
+indexed-comes P Q room slots r h k m =
+    bind-comes P Q Q r _ h
+    (λ c q.
+    guard-comes P Q (leb (length (encode c)) room) 17 (length (encode c)) _ (λ y. k c q (leb-false (length (encode c)) room y))
+    (λ _.
+    guard-comes P Q (leb (length (offsets c)) slots) 17 (length (offsets c)) (λ _. ok c) (λ y. m c q (leb-false (length (offsets c)) slots y)) (λ _. q)))
+
+-- what is written with its row
+abbrev pub Formed : Command → Type 0
+Formed c = wellFormed c ≡ true
+
+pub reading-row-comes : (letters text old row : List ℕ) → Comes (ReadRowRefuses letters text old row) Formed (readingRow text letters old row)
+unfolding readingRow
+reading-row-comes letters text old row =
+    indexed-comes (ReadRowRefuses letters text old row) Formed (length old) (length row) (read letters text)
+    (comes-as (ReaderRefuses letters text old) (ReadRowRefuses letters text old row) Formed (read letters text)
+    (comes-more (ReaderRefuses letters text old) (λ c. read letters text ≡ ok c) Formed (read letters text)
+    (comes-self (ReaderRefuses letters text old) Whatever (read letters text) (read-comes letters text old)) (λ c q. read-wf letters text c q))
+    (λ n p h. asReader h))
+    (λ c q h. asReader (noRoom h (record-bound c q))) (λ c q h. noSlots h (offsets-most c q))
+
+pub read-row-list : (letters text old row : List ℕ) (n p : ℕ) → readingRow text letters old row ≡ bad n p → ReadRowRefuses letters text old row n p
+read-row-list letters text old row n p e =
+    comes-bad (ReadRowRefuses letters text old row) Formed (readingRow text letters old row) n p (reading-row-comes letters text old row) e
+
+pub ordering-row-comes : (r : List ℕ) (k : ℕ) (old row : List ℕ) → Comes (OrderRowRefuses r k old row) Formed (orderingRow r k old row)
+unfolding orderingRow
+ordering-row-comes r k old row =
+    indexed-comes (OrderRowRefuses r k old row) Formed (length old) (length row) (orderOf r k)
+    (order-comes (OrderRowRefuses r k old row) r k (asOrder notWellFormed) (λ p e h. asOrder (noSuchOrder e h)))
+    (λ c q h. asOrder (noRoom h (record-bound c q))) (λ c q h. noSlots h (offsets-most c q))
+
+pub order-row-list : (r : List ℕ) (k : ℕ) (old row : List ℕ) (n p : ℕ) → orderingRow r k old row ≡ bad n p → OrderRowRefuses r k old row n p
+order-row-list r k old row n p e =
+    comes-bad (OrderRowRefuses r k old row) Formed (orderingRow r k old row) n p (ordering-row-comes r k old row) e
+
+pub placing-comes : (r row : List ℕ) (n : ℕ) → Comes (PlaceRefuses r row n) Record (placing r row n)
+unfolding placing
+placing-comes r row n =
+    bind-comes (PlaceRefuses r row n) (λ c. recordOf r ≡ ok c) Record (recordOf r) _
+    (comes-self (PlaceRefuses r row n) Formed (recordOf r) (record-comes (PlaceRefuses r row n) r notWellFormed))
+    (λ c x.
+    let right : ℕ = agreeing (offsets c) row in
+    guard-comes (PlaceRefuses r row n) Record (leb (length (offsets c)) right) 28 right _ (λ y. wrongRow x (leb-false (length (offsets c)) right y))
+    (λ _.
+    guard-comes (PlaceRefuses r row n) Record (ltb n (length (offsets c))) 26 n (λ _. ok (placeBytes c n)) (λ y. noSuchPlace x (ltb-false n (length (offsets c)) y))
+    (λ y. omega (arith, place-small c n (ltb-true n (length (offsets c)) y), record-bound c ((record-is r c x) .well)))))
+
+pub place-list : (r row : List ℕ) (n nr p : ℕ) → placing r row n ≡ bad nr p → PlaceRefuses r row n nr p
+place-list r row n nr p e = comes-bad (PlaceRefuses r row n) Record (placing r row n) nr p (placing-comes r row n) e
 
 -- ---- a key
 

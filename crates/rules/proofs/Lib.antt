@@ -40,6 +40,9 @@ pub mod LocateCall
 pub mod CountIsField
 pub mod TextBound
 pub mod RecordBound
+pub mod RowPoints
+pub mod Indexed
+pub mod RowCalls
 pub mod ListBound
 pub mod AnswersFit
 pub mod KeeperIsList

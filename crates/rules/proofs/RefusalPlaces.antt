@@ -52,6 +52,10 @@ pub comes-more : {A : Type 0} (P : ℕ → ℕ → Type 0) (Q R : A → Type 0) 
 comes-more P Q R (ok a) h k = k a h
 comes-more P Q R (bad n p) h k = h
 
+pub comes-as : {A : Type 0} (P R : ℕ → ℕ → Type 0) (Q : A → Type 0) (r : Res A) → Comes P Q r → ((n p : ℕ) → P n p → R n p) → Comes R Q r
+comes-as P R Q (ok a) h k = h
+comes-as P R Q (bad n p) h k = k n p h
+
 pub comes-self : {A : Type 0} (P : ℕ → ℕ → Type 0) (Q : A → Type 0) (r : Res A) → Comes P Q r → Comes P (λ a. r ≡ ok a) r
 comes-self P Q (ok a) h = refl
 comes-self P Q (bad n p) h = h

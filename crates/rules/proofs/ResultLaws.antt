@@ -1,12 +1,19 @@
 -- Taking results apart: a success behind a step means that the step succeeded too.
 use Prim.Native.Nat.{ℕ}
-use mathlib.Core.Path.{_≡_, refl}
+use mathlib.Core.Path.{_≡_, refl, ap₂}
 use mathlib.Core.Bool.{Bool, true, false, cond}
 use native.Mathlib.Omega.{arith}
 use Rattle.rules.specs.Refusals.{Res, ok, bad, _>>=_, mapR, guard}
 
 pub ok-inj : {A : Type 0} {a b : A} → _≡_ {A = Res A} (ok a) (ok b) → a ≡ b
 ok-inj h = cc
+
+pub bad-same : {A : Type 0} {n m p q : ℕ} → _≡_ {A = Res A} (bad n p) (bad m q) → (n ≡ m) × (p ≡ q)
+bad-same h = (cc, cc)
+
+-- the same refusal of something else
+pub bad-as : {A B : Type 0} {n m p q : ℕ} → _≡_ {A = Res A} (bad n p) (bad m q) → _≡_ {A = Res B} (bad n p) (bad m q)
+bad-as h = let e = bad-same h in ap₂ (λ n p. bad n p) (e .0) (e .1)
 
 pub ok≢bad : {A : Type 0} {C : Type 0} {a : A} {n p : ℕ} → _≡_ {A = Res A} (bad n p) (ok a) → C
 ok≢bad h = let z : _≡_ {A = ℕ} 0 1 = cc in absurd (omega arith)

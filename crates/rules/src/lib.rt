@@ -1,7 +1,7 @@
 // Documents 01 and 02 as definitions (specs/) and what is proved of them (proofs/). The types that the calls answer with, the numbers of the
 // refusals and the limits are the only code.
 
-// What a call answers: the bytes written (for count the number of orders, for member 0 or 1 and the position), or the refusal's number and its place.
+// What a call answers: the bytes written (for count the number of orders, for member 0 or 1 and the position, for place the length of its fields), or the refusal's number and its place.
 pub enum Answer {
     Done(u32),
     Refused(u8, u32),
@@ -53,6 +53,8 @@ pub const NAME_TWICE: u8 = 21;
 pub const NO_SUCH_PLACE: u8 = 26;
 // An argument that could not stand in its place.
 pub const WRONG_ARGUMENT: u8 = 27;
+// A row that is shorter than the places, or of which a slot differs.
+pub const WRONG_ROW: u8 = 28;
 
 // The limits, as `Refusals` has them. Base letters of a list.
 pub const MOST_LETTERS: usize = 32;

@@ -18,7 +18,7 @@ use Rattle.rules.specs.WellFormed.{wellFormed, recordOf}
 use Rattle.rules.specs.Printing.{print}
 use Rattle.rules.specs.Orders.{orders, orderAt, count}
 use Rattle.rules.specs.Listing.{listBytes, piecesOf}
-use Rattle.rules.specs.Answers.{fitted, reading, printing, ordering, listing}
+use Rattle.rules.specs.Answers.{fitted, reading, printing, orderOf, ordering, listing}
 use Rattle.rules.proofs.CountIsField.{counted, order-count, order-one}
 use Rattle.rules.proofs.DirectIsList.{count-is, direct-is}
 use Rattle.rules.proofs.EncodeDecode.{IsRecord, record-is, record-of}
@@ -27,7 +27,7 @@ use Rattle.rules.proofs.OrderFits.{order-fits}
 use Rattle.rules.proofs.OrderWellFormed.{order-wf}
 use Rattle.rules.proofs.PiecesAreOrders.{list-back, piece-count, piece-at}
 use Rattle.rules.proofs.ReadSound.{read-wf}
-use Rattle.rules.proofs.ResultLaws.{ok-inj, ok≢bad, bind-ok, map-ok, guard-ok}
+use Rattle.rules.proofs.ResultLaws.{ok-inj, bad-same, ok≢bad, bind-ok, map-ok, guard-ok}
 use Rattle.rules.proofs.RoundTrip.{read-print}
 use Rattle.rules.proofs.SoleOrder.{order-sole}
 use Rattle.grammar.proofs.Exact.{sound, complete}
@@ -65,9 +65,6 @@ accepts letters text old r = (there, back)
 pub read-without-room : ReadWithoutRoom
 unfolding reading
 read-without-room letters text old c f h = rw (complete letters text c f, lt-leb (length (encode c)) (length old) h)
-
-bad-same : {A : Type 0} {n m p q : ℕ} → _≡_ {A = Res A} (bad n p) (bad m q) → (n ≡ m) × (p ≡ q)
-bad-same h = (cc, cc)
 
 pub refused-for-room-alone : RefusedForRoomAlone
 unfolding reading
@@ -134,12 +131,14 @@ orders-given-room r k old o = (there, back)
   where
     there : ordering r k old ≡ ok o → Ordered r k old o
     there h =
-        fitted-is old _ o h
+        fitted-is old (mapR encode (orderOf r k)) o h
         (λ a room.
-        bind-ok (recordOf r) _ o a
+        map-ok encode (orderOf r k) o a
+        (λ d z is.
+        bind-ok (recordOf r) _ d z
         (λ c q e.
-        guard-ok (ltb k (count c)) noSuchOrder (count c) (λ _. ok (encode (orderAt c k))) o e
-        (λ t same. record { tree = c; is = q; below = ltb-true k (count c) t; bytes = ok-inj same; room = room })))
+        guard-ok (ltb k (count c)) noSuchOrder (count c) (λ _. ok (orderAt c k)) d e
+        (λ t same. record { tree = c; is = q; below = ltb-true k (count c) t; bytes = ap encode (ok-inj same) ∙ is; room = room }))))
 
     back : Ordered r k old o → ordering r k old ≡ ok o
     back x = rw (x .is, lt-ltb k (count (x .tree)) (x .below)) (fitted-as old (encode (orderAt (x .tree) k)) o (x .bytes) (x .room))

@@ -1,36 +1,41 @@
 -- What was asked for, as types: the user's words, and below them the statement. `proofs/Proved` has a term of each, under a name in small letters.
 -- First the three demands; then what is asked of a record; then the same over the calls, on bytes; then the line keeper; last the witnesses, tables from the paper for what reader, grammar and printer share.
-use Prim.Native.Nat.{ℕ, suc, _≤_, _<_}
+use Prim.Native.Nat.{ℕ, suc, _+_, _≤_, _<_}
 use mathlib.Core.Path.{_≡_}
-use mathlib.Core.Bool.{true, false, _&&_, not}
+use mathlib.Core.Bool.{Bool, true, false, _&&_, not}
 use mathlib.Core.List.{List, [], _∷_, _++_, map}
 use mathlib.Core.Option.{none, some}
+use denote.Ref.{RefT, now}
 use lib.Dec.{eqb}
-use lib.ListN.{length, getD}
+use lib.ListN.{length, getD, take, drop}
 use Rattle.laws.specs.Keys.{anyOf}
 use Rattle.laws.specs.Lists.{all, isNil, concat}
+use Rattle.laws.specs.Over.{over}
 use Rattle.rules.specs.declared.Answer.{Answer}
 use Rattle.rules.specs.declared.Keeper.{Keeper}
 use Rattle.rules.specs.declared.Pressed.{Pressed}
-use Rattle.rules.specs.Refusals.{Res, ok, bad, mapR, wrongLetter, tooLong, notPermitted, unclosed, noToken, noEnd, afterEnd, wrongCode, kindDiffers, wrongName, wrongShape, unreadable, tooBig, groupBroken, tooMany, tooManyOrders, noRoom, notWellFormed, noSuchOrder, noKey, nameTwice, noSuchPlace, wrongArgument, mostLetters, mostText, mostWord, mostPrefixed, mostString, moreOfCode, moreOfName, mostBlocks, mostPlaces, mostLeading, mostElements, mostArguments, mostOrders, mostValue, mostFraction}
+use Rattle.rules.specs.Refusals.{Res, ok, bad, mapR, wrongLetter, tooLong, notPermitted, unclosed, noToken, noEnd, afterEnd, wrongCode, kindDiffers, wrongName, wrongShape, unreadable, tooBig, groupBroken, tooMany, tooManyOrders, noRoom, notWellFormed, noSuchOrder, noKey, nameTwice, noSuchPlace, wrongArgument, wrongRow, mostLetters, mostText, mostWord, mostPrefixed, mostString, moreOfCode, moreOfName, mostBlocks, mostPlaces, mostLeading, mostElements, mostArguments, mostOrders, mostValue, mostFraction}
 use Rattle.rules.specs.Characters.{bytes, capital, isLetter, isDigit, isAlnum, isEffector, isPermitted, isWordChar, isSymbolChar}
 use Rattle.rules.specs.Units.{rD, rH, rO, rB, letter, baseOf, radixAt, baseAt, Base, Unit, keyed, isKey, isHeldKey}
 use Rattle.rules.specs.Commands.{Element, single, Place, Block, block, Command, command, placeBase, placeValue, placeName, allPlaces, commandUnits, valueCount}
 use Rattle.rules.specs.Reading.{read, readAny}
-use Rattle.rules.specs.Records.{fourBytes, fieldsOf, bytesOf, encode, decode, countIn, bases}
+use Rattle.rules.specs.Records.{fourBytes, many, placeFields, fieldsOf, bytesOf, encode, decode, countIn, bases}
 use Rattle.rules.specs.WellFormed.{wfValue, wellFormed, recordOf}
 use Rattle.rules.specs.Printing.{print}
 use Rattle.rules.specs.Orders.{orders, orderAt, count}
 use Rattle.rules.specs.Listing.{joined, listBytes, piecesOf}
 use Rattle.rules.specs.Positions.{placeOf, unitBytes, couldStand, positionOf, answerOf, writtenOut, isArgument, firstIn, IsFirst, IsNowhere}
-use Rattle.rules.specs.Answers.{reading, printing, ordering, counting, listing, locating, answered, valueOf, Promise, Counts, Locates}
+use Rattle.rules.specs.Indexes.{offsets}
+use Rattle.rules.specs.Answers.{reading, printing, orderOf, ordering, counting, listing, locating, readingRow, orderingRow, placing, answered, valueOf, Promise, Counts, Locates, RowPromise, ReadsRow, OrdersRow, Places, HandsBack}
 use Rattle.rules.specs.Keeping.{ready, press, Possible, held, pressing, afterKey, lineAfter, lineAnswers, keeperAfter, keeperAnswers}
 use Rattle.rules.proofs.Lines.{found, stated, twelve, example, example77, answer, due, limits, tally, expected}
-use Rattle.rules.proofs.FromTheList.{ReaderRefuses, PrinterRefuses, OrderRefuses, CountRefuses, ListRefuses, LocateRefuses, KeyRefuses}
+use Rattle.rules.proofs.FromTheList.{ReaderRefuses, PrinterRefuses, OrderRefuses, CountRefuses, ListRefuses, LocateRefuses, ReadRowRefuses, OrderRowRefuses, PlaceRefuses, KeyRefuses}
 use Rattle.rules.proofs.KeptLines.{lastEnds, Typed}
 use Rattle.rules.proofs.KeyRows.{runFound, runStated, runs, most, full, keyFound, keyStated, keys}
 use Rattle.rules.proofs.RefusalRows.{cells, scanned}
-use Rattle.rules.proofs.CallRows.{readFound, readStated, reads, printFound, printStated, prints, orderFound, orderStated, ordersAsked, countFound, countStated, countsAsked, listFound, listStated, listsAsked, memberFound, memberStated, membersAsked}
+use Rattle.rules.proofs.RowCalls.{SlotRight, PartFrom}
+use Rattle.rules.proofs.RowPoints.{StandsAt}
+use Rattle.rules.proofs.CallRows.{readFound, readStated, reads, printFound, printStated, prints, orderFound, orderStated, ordersAsked, countFound, countStated, countsAsked, listFound, listStated, listsAsked, memberFound, memberStated, membersAsked, readRowFound, readRowStated, readRows, orderRowFound, orderRowStated, orderRows, askFound, askStated, asked}
 use Rattle.rules.proofs.Tables.{opens, tested, printed, classes, members, ranges, baseFound, baseStated, baseRows, five, isBase, wordFound, wordStated, wordRows, unitFound, unitStated, unitRows, unitsRead, unitsDue, sepFound, sepStated, sepRows, whole, wholeRecord}
 use Rattle.grammar.specs.Grammar.{Follows}
 
@@ -55,9 +60,12 @@ FromTheList =
     × ((r : List ℕ) (n p : ℕ) → counting r ≡ bad n p → CountRefuses n p)
     × ((r old : List ℕ) (n p : ℕ) → listing r old ≡ bad n p → ListRefuses r old n p)
     × ((r : List ℕ) (n : ℕ) (w : List ℕ) (nr p : ℕ) → locating r n w ≡ bad nr p → LocateRefuses r n w nr p)
+    × ((letters text old row : List ℕ) (n p : ℕ) → readingRow text letters old row ≡ bad n p → ReadRowRefuses letters text old row n p)
+    × ((r : List ℕ) (k : ℕ) (old row : List ℕ) (n p : ℕ) → orderingRow r k old row ≡ bad n p → OrderRowRefuses r k old row n p)
+    × ((r row : List ℕ) (n nr p : ℕ) → placing r row n ≡ bad nr p → PlaceRefuses r row n nr p)
     × ((k : Keeper) (c n p : ℕ) → pressing k c ≡ bad n p → KeyRefuses k c n p)
 
--- bytes written, number of orders, position or place: every value fits the 32 bits that the answer has for it; M-107's 26 gives back the place number that was asked
+-- bytes written, number of orders, position or place: every value fits the 32 bits that the answer has for it; 26 gives back the place number that was asked
 abbrev pub AnswersFit : Type 0
 AnswersFit =
     ((text letters old : List ℕ) → valueOf (answered (mapR length (reading text letters old))) ≤ 65536)
@@ -67,6 +75,10 @@ AnswersFit =
     × ((r old : List ℕ) → valueOf (answered (mapR length (listing r old))) < 4294967296)
     × ((r : List ℕ) (n : ℕ) (w : List ℕ) (k : ℕ) → locating r n w ≡ ok k → k ≤ 4096)
     × ((r : List ℕ) (n : ℕ) (w : List ℕ) → n < 4294967296 → valueOf (answered (locating r n w)) < 4294967296)
+    × ((text letters old row : List ℕ) → valueOf (answered (mapR (λ c. length (encode c)) (readingRow text letters old row))) ≤ 65536)
+    × ((r : List ℕ) (k : ℕ) (old row : List ℕ) → valueOf (answered (mapR (λ c. length (encode c)) (orderingRow r k old row))) ≤ 65536)
+    × ((r row : List ℕ) (n : ℕ) (w : List ℕ) → placing r row n ≡ ok w → length w ≤ 65536)
+    × ((r row : List ℕ) (n : ℕ) → n < 4294967296 → valueOf (answered (mapR length (placing r row n))) < 4294967296)
     × ((k : Keeper) (c : ℕ) → valueOf (afterKey k c .answer) ≤ 65536)
 
 -- "Any two results satisfying it are proved equal"
@@ -80,6 +92,21 @@ CountDecided = (r : List ℕ) (a b : Answer) → Counts r a → Counts r b → a
 
 abbrev pub LocateDecided : Type 0
 LocateDecided = (r : List ℕ) (n : ℕ) (w : List ℕ) (a b : Answer) → Locates r n w a → Locates r n w b → a ≡ b
+
+-- M-108: the answer, every byte of the buffer and every slot of the row
+abbrev pub RowDecided : Type 0
+RowDecided =
+    (result : Res Command) (old row : List ℕ) (a b : Answer) (new also filled likewise : List ℕ) → RowPromise result old row a new filled
+    → RowPromise result old row b also likewise → (a ≡ b) × (new ≡ also) × (filled ≡ likewise)
+
+abbrev pub PlaceDecided : Type 0
+PlaceDecided = (r row : List ℕ) (n : ℕ) (a b : Answer) → Places r row n a → Places r row n b → a ≡ b
+
+-- the bytes of the part and where it lies in memory
+abbrev pub PartDecided : Type 0
+PartDecided =
+    (r : RefT (List ℕ)) (row : List ℕ) (n : ℕ) (a b : RefT (List ℕ)) → HandsBack r row n a → HandsBack r row n b
+    → (now a ≡ now b) × (a .ptr .0 ≡ b .ptr .0) × (a .ptr .1 ≡ b .ptr .1)
 
 abbrev pub KeyDecided : Type 0
 KeyDecided = (k : Keeper) (c : ℕ) (a b : Pressed) → a ≡ afterKey k c → b ≡ afterKey k c → a ≡ b
@@ -290,6 +317,99 @@ LocateRefused =
     × ((c : Command) → recordOf r ≡ ok c → isNil (placeValue (placeOf c n)) ≡ false
     → ((l : List Unit) (u : Unit) → couldStand (placeBase (placeOf c n)) l u ≡ true → unitBytes l u ≡ w → ⊥) → locating r n w ≡ bad wrongArgument 0)
 
+-- ======== M-108: an index of places
+
+-- "a lent row of 32-bit offsets, one for each place": as many as there are places. The slot of a place's number is how many bytes of the record stand before the place: 7 of the head, the code and the
+-- blocks before, 4 of the block's own field, and the places before it; and there the record has the place's fields
+abbrev pub RowPoints : Type 0
+RowPoints =
+    ((code : List (List ℕ)) (bs : List Block) → length (offsets (command code bs)) ≡ length (allPlaces bs))
+    × ((code : List (List ℕ)) (before : List Block) (k : Bool) (ps : List Place) (p : Place) (qs : List Place) (behind : List Block)
+    → (getD (offsets (command code (before ++ (block k (ps ++ (p ∷ qs)) ∷ behind)))) (length (allPlaces before) + length ps) 0
+    ≡ 7 + length (bytesOf (fieldsOf (command code before))) + 4 + length (bytesOf (many placeFields ps)))
+    × StandsAt p (encode (command code (before ++ (block k (ps ++ (p ∷ qs)) ∷ behind))))
+    (7 + length (bytesOf (fieldsOf (command code before))) + 4 + length (bytesOf (many placeFields ps))))
+
+-- a call "that, from record, row and place number, hands back that place's fields": by a row that begins with the offsets of a record, that place's fields; from the number of places on, 26
+abbrev pub AskedByFilledRow : Type 0
+AskedByFilledRow =
+    (c : Command) (slots : List ℕ) (n : ℕ) → wellFormed c ≡ true
+    → (n < length (offsets c) → placing (encode c) (over (offsets c) slots) n ≡ ok (bytesOf (placeFields (placeOf c n))))
+    × (length (offsets c) ≤ n → placing (encode c) (over (offsets c) slots) n ≡ bad noSuchPlace n)
+
+-- "Reader and order writer fill the row": by the row that they filled, each place of the record that they wrote is handed back
+abbrev pub FilledRowIsAsked : Type 0
+FilledRowIsAsked =
+    ((text letters old row : List ℕ) (answer : Answer) (new filled : List ℕ) (c : Command) (n : ℕ) → ReadsRow text letters old row answer new filled
+    → readingRow text letters old row ≡ ok c → n < length (offsets c) → placing (take (valueOf answer) new) filled n ≡ ok (bytesOf (placeFields (placeOf c n))))
+    × ((r : List ℕ) (k : ℕ) (old row : List ℕ) (answer : Answer) (new filled : List ℕ) (c : Command) (n : ℕ) → OrdersRow r k old row answer new filled
+    → orderingRow r k old row ≡ ok c → n < length (offsets c) → placing (take (valueOf answer) new) filled n ≡ ok (bytesOf (placeFields (placeOf c n))))
+
+-- the row holds the offsets, and "slots beyond the places keep their numbers"; a refusal leaves buffer and row, "nothing written"
+abbrev pub SlotsBeyondKept : Type 0
+SlotsBeyondKept =
+    (result : Res Command) (old row : List ℕ) (answer : Answer) (new filled : List ℕ) → RowPromise result old row answer new filled
+    → ((c : Command) → result ≡ ok c
+    → (take (length (offsets c)) filled ≡ offsets c) × (drop (length (offsets c)) filled ≡ drop (length (offsets c)) row))
+    × ((n p : ℕ) → result ≡ bad n p → (new ≡ old) × (filled ≡ row))
+
+-- any row that is let pass begins with the record's offsets, and what is handed back is that place's fields
+abbrev pub PassedRowIsThatRow : Type 0
+PassedRowIsThatRow =
+    (r row : List ℕ) (n : ℕ) (c : Command) → recordOf r ≡ ok c
+    → ((w : List ℕ) → placing r row n ≡ ok w → (take (length (offsets c)) row ≡ offsets c) × (w ≡ bytesOf (placeFields (placeOf c n))))
+    × ((p : ℕ) → placing r row n ≡ bad noSuchPlace p → take (length (offsets c)) row ≡ offsets c)
+
+-- "as part of the record itself": what is handed back are the record's bytes from the slot's offset on, inside the record, and four at least
+abbrev pub PartOfTheRecord : Type 0
+PartOfTheRecord = (r row : List ℕ) (n : ℕ) (w : List ℕ) → placing r row n ≡ ok w → PartFrom r (getD row n 0) w
+
+-- the call's answer is the length of the part, and the part lies in memory so many bytes behind the record's start as the slot says; where the call refuses, the part is empty
+abbrev pub PartLies : Type 0
+PartLies =
+    (r : RefT (List ℕ)) (row : List ℕ) (n : ℕ) (answer : Answer) (part : RefT (List ℕ)) → Places (now r) row n answer → HandsBack r row n part
+    → ((w : List ℕ) → placing (now r) row n ≡ ok w
+    → (answer ≡ Answer.Done (length w)) × (now part ≡ w) × (part .ptr .0 ≡ r .ptr .0) × (part .ptr .1 ≡ r .ptr .1 + getD row n 0))
+    × ((nr p : ℕ) → placing (now r) row n ≡ bad nr p → (answer ≡ Answer.Refused nr p) × (now part ≡ []))
+
+-- "when asking, 18, then 28 where the row is shorter than the places or a slot differs (place the first such slot), then 26 for no such place", and else the place's fields
+abbrev pub PlaceRefused : Type 0
+PlaceRefused =
+    (r row : List ℕ) (n : ℕ)
+    → (((c : Command) → recordOf r ≡ ok c → ⊥) → placing r row n ≡ bad notWellFormed 0)
+    × ((c : Command) (j : ℕ) → recordOf r ≡ ok c → j < length (offsets c) → ((i : ℕ) → i < j → SlotRight (offsets c) row i) → (SlotRight (offsets c) row j → ⊥)
+    → placing r row n ≡ bad wrongRow j)
+    × ((c : Command) → recordOf r ≡ ok c → ((i : ℕ) → i < length (offsets c) → SlotRight (offsets c) row i) → length (offsets c) ≤ n
+    → placing r row n ≡ bad noSuchPlace n)
+    × ((c : Command) → recordOf r ≡ ok c → ((i : ℕ) → i < length (offsets c) → SlotRight (offsets c) row i) → n < length (offsets c)
+    → placing r row n ≡ ok (bytesOf (placeFields (placeOf c n))))
+
+-- what is refused as without a row; "17 if the row is too short (place the slots needed), after the record's own 17"; and with room for both, none
+abbrev pub Filling : Res Command → List ℕ → List ℕ → Res Command → Type 0
+Filling found old row result =
+    ((n p : ℕ) → found ≡ bad n p → result ≡ bad n p)
+    × ((c : Command) → found ≡ ok c → length old < length (encode c) → result ≡ bad noRoom (length (encode c)))
+    × ((c : Command) → found ≡ ok c → length (encode c) ≤ length old → length row < length (offsets c) → result ≡ bad noRoom (length (offsets c)))
+    × ((c : Command) → found ≡ ok c → length (encode c) ≤ length old → length (offsets c) ≤ length row → result ≡ ok c)
+
+-- "when filling"
+abbrev pub RowRefused : Type 0
+RowRefused =
+    ((text letters old row : List ℕ) → Filling (read letters text) old row (readingRow text letters old row))
+    × ((r : List ℕ) (k : ℕ) (old row : List ℕ) → Filling (orderOf r k) old row (orderingRow r k old row))
+
+-- a call with a row beside the call without one, which answers bytes: what that refuses it refuses alike; what it writes that writes; and with a slot for each place, so with 32 always, both do the same
+abbrev pub Beside : Res Command → Res Command → List ℕ → Res (List ℕ) → Type 0
+Beside found result row without =
+    ((n p : ℕ) → without ≡ bad n p → result ≡ bad n p) × ((c : Command) → result ≡ ok c → without ≡ ok (encode c))
+    × (((c : Command) → found ≡ ok c → length (offsets c) ≤ length row) → mapR encode result ≡ without)
+    × (32 ≤ length row → mapR encode result ≡ without)
+
+abbrev pub RowIsRead : Type 0
+RowIsRead =
+    ((text letters old row : List ℕ) → Beside (read letters text) (readingRow text letters old row) row (reading text letters old))
+    × ((r : List ℕ) (k : ℕ) (old row : List ℕ) → Beside (orderOf r k) (orderingRow r k old row) row (ordering r k old))
+
 -- ======== the same of the calls, on bytes
 
 -- some tree follows, the bytes are its record, and the buffer has room for them
@@ -461,8 +581,8 @@ TableOfTags =
 abbrev pub RefusalNumbers : Type 0
 RefusalNumbers =
     (wrongLetter ∷ tooLong ∷ notPermitted ∷ unclosed ∷ noToken ∷ noEnd ∷ afterEnd ∷ wrongCode ∷ kindDiffers ∷ wrongName ∷ wrongShape ∷ unreadable ∷ tooBig
-    ∷ groupBroken ∷ tooMany ∷ tooManyOrders ∷ noRoom ∷ notWellFormed ∷ noSuchOrder ∷ noKey ∷ nameTwice ∷ noSuchPlace ∷ wrongArgument ∷ [])
-    ≡ 1 ∷ 2 ∷ 3 ∷ 4 ∷ 5 ∷ 6 ∷ 7 ∷ 8 ∷ 9 ∷ 10 ∷ 11 ∷ 12 ∷ 13 ∷ 14 ∷ 15 ∷ 16 ∷ 17 ∷ 18 ∷ 19 ∷ 20 ∷ 21 ∷ 26 ∷ 27 ∷ []
+    ∷ groupBroken ∷ tooMany ∷ tooManyOrders ∷ noRoom ∷ notWellFormed ∷ noSuchOrder ∷ noKey ∷ nameTwice ∷ noSuchPlace ∷ wrongArgument ∷ wrongRow ∷ [])
+    ≡ 1 ∷ 2 ∷ 3 ∷ 4 ∷ 5 ∷ 6 ∷ 7 ∷ 8 ∷ 9 ∷ 10 ∷ 11 ∷ 12 ∷ 13 ∷ 14 ∷ 15 ∷ 16 ∷ 17 ∷ 18 ∷ 19 ∷ 20 ∷ 21 ∷ 26 ∷ 27 ∷ 28 ∷ []
 
 -- the limits by name, and for each the last line that is read and the first that is refused
 abbrev pub Limits : Type 0
@@ -475,12 +595,14 @@ Limits =
 abbrev pub CellsOfRefusals : Type 0
 CellsOfRefusals = (map answer cells ≡ map due cells) × (map tally scanned ≡ map expected scanned)
 
--- the calls: number and value, and every byte of a lent buffer
+-- the calls: number and value, every byte of a lent buffer, every slot of a lent row, and the part that is handed back
 abbrev pub CallRows : Type 0
 CallRows =
     (map readFound reads ≡ map readStated reads) × (map printFound prints ≡ map printStated prints)
     × (map orderFound ordersAsked ≡ map orderStated ordersAsked) × (map countFound countsAsked ≡ map countStated countsAsked)
     × (map listFound listsAsked ≡ map listStated listsAsked) × (map memberFound membersAsked ≡ map memberStated membersAsked)
+    × (map readRowFound readRows ≡ map readRowStated readRows) × (map orderRowFound orderRows ≡ map orderRowStated orderRows)
+    × (map askFound asked ≡ map askStated asked)
 
 -- M-100: runs of keys, keys to a full line, and one key to a keeper: number, value and every byte of it
 abbrev pub KeyRows : Type 0

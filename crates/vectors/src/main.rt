@@ -2,9 +2,13 @@
 // `BASES|COMMAND`, `@BASES|COMMAND` where the orders are asked for, `*BASES|COMMAND` where the whole list
 // is, `#RECORD` with the record in hexadecimal, `=RECORD` where its whole list is asked for, or `!KEYS` with
 // the keys in hexadecimal; `?PLACE|ARGUMENT|BASES|COMMAND` and `?PLACE|ARGUMENT|#RECORD` ask whether the
-// argument, its unit fields in hexadecimal, stands in the place.
+// argument, its unit fields in hexadecimal, stands in the place. With a row of offsets, numbers that have a
+// blank between each two, `&ROW|ROOM|BASES|COMMAND` reads a command into a buffer of ROOM bytes,
+// `+ROW|ROOM|K|BASES|COMMAND` and `+ROW|ROOM|K|#RECORD` write order K into one, and `/ROW|PLACE|BASES|COMMAND` and
+// `/ROW|PLACE|#RECORD` ask for the fields of a place.
 mod keys;
 mod questions;
+mod rows;
 
 use console_figures::Decoded;
 use console_figures::front;
@@ -70,21 +74,39 @@ fn run_line(line: &[u8]) {
         b'*' => run_command(behind(line, 0), Asked::List),
         b'!' => keys::run(behind(line, 0)),
         b'?' => questions::run(behind(line, 0)),
+        b'&' => rows::read(behind(line, 0)),
+        b'+' => rows::order(behind(line, 0)),
+        b'/' => rows::place(behind(line, 0)),
         _ => run_command(line, Asked::Record),
     }
     io::write_all(STDOUT_FILENO, b"\n");
 }
 
-// Where the bar stands that ends the bases, or the length where there is none.
+// Where the first bar stands, or the length where there is none.
 fn find_bar(line: &[u8]) -> usize {
+    find(line, b'|')
+}
+
+// Where a byte stands first, or the length where it does not stand.
+fn find(line: &[u8], b: u8) -> usize {
     let mut i = 0;
     while i < line.len() {
-        if line[i] == b'|' {
+        if line[i] == b {
             return i;
         }
         i += 1;
     }
     i
+}
+
+// The bytes before the first bar.
+fn before_bar(line: &[u8]) -> &[u8] {
+    front(line, find_bar(line))
+}
+
+// The bytes behind the first bar.
+fn behind_bar(line: &[u8]) -> &[u8] {
+    behind(line, find_bar(line))
 }
 
 // The bytes behind the one at `at`.

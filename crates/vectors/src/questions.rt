@@ -15,8 +15,7 @@ const LAST_PLACE: u64 = 4294967295;
 pub fn run(line: &[u8]) {
     io::write_all(STDOUT_FILENO, line);
     io::write_all(STDOUT_FILENO, b" -> ");
-    let behind_place = crate::behind(line, crate::find_bar(line));
-    let asked = crate::behind(behind_place, crate::find_bar(behind_place));
+    let asked = crate::behind_bar(crate::behind_bar(line));
     if crate::byte(asked, 0) == b'#' {
         ask_record(crate::behind(asked, 0), line);
     } else {
@@ -48,8 +47,7 @@ fn ask_command(command: &[u8], line: &[u8]) {
 
 // Takes the line's argument, in hexadecimal, and asks for it.
 fn ask(record: &[u8], line: &[u8]) {
-    let behind_place = crate::behind(line, crate::find_bar(line));
-    let digits = front(behind_place, crate::find_bar(behind_place));
+    let digits = crate::before_bar(crate::behind_bar(line));
     let mut argument = [0u8; MOST_BYTES];
     match console_figures::decode(digits, &mut argument) {
         Decoded::Bytes(n) => ask_for(record, line, front(&argument, n)),
@@ -61,7 +59,7 @@ fn ask(record: &[u8], line: &[u8]) {
 
 // Takes the line's place, and asks for the argument there.
 fn ask_for(record: &[u8], line: &[u8], argument: &[u8]) {
-    match console_figures::decimal(front(line, crate::find_bar(line))) {
+    match console_figures::decimal(crate::before_bar(line)) {
         Number::Is(place) => ask_in(record, place, argument),
         Number::Wrong => {
             io::write_all(STDOUT_FILENO, b"no number");

@@ -11,6 +11,9 @@
 //!
 //! The rows of `member` ask for the last argument of a command's first place; k is its position.
 //!
+//! The rows of `read_row` and `order_row` lend a row of 32 slots beside. Those of `place` ask for the
+//! last place by the record's row; k is its number.
+//!
 //! `bench rows` names the rows; `bench run ROW SIDE CALLS` makes calls of one side of a row and
 //! nothing else, for the script `instructions`.
 
@@ -77,6 +80,9 @@ const ASKED: [(&str, [u32; 2]); 4] = [
     (MANY_TERMS, [7, 4000]),
 ];
 
+/// The commands of which rows of offsets are timed.
+const ROWED: [&str; 3] = [SHORT, MIDDLE, LONG];
+
 /// Few values with many orders: its orders alone are timed.
 const WIDE: &str = "A:0&&4094,0&&15;";
 
@@ -89,7 +95,7 @@ const KEYS: [(&str, u8); 2] = [("letter", b'A'), ("semicolon", b';')];
 /// The bytes that a keeper holds when a key is timed.
 const HELD: [u32; 2] = [10, 1_000];
 
-const HEAD: &str = "command       call    text  record      k orders";
+const HEAD: &str = "command       call       text  record      k orders";
 
 /// A call on one side: gives the answer's value.
 type Side<'a> = Box<dyn FnMut() -> u32 + 'a>;
@@ -204,8 +210,9 @@ struct Command {
 }
 
 impl Command {
-    /// Its rows: every call, an argument and all orders if they are timed, the first order and the
-    /// last if that is another; of the wide one the orders alone, of the ranges the argument alone.
+    /// Its rows: every call, offsets, an argument and all orders if they are timed, the first order
+    /// and the last if that is another; of the wide one the orders alone, of the ranges the argument
+    /// alone.
     fn rows(&self) -> Vec<Row<'_>> {
         let orders = model::count(&self.record).unwrap_or(0);
         let last = u64::from(orders) - 1;
@@ -213,6 +220,9 @@ impl Command {
         let mut rows = Vec::new();
         if !is_range && self.text != WIDE {
             rows.extend([read(self), print(self), count(self)]);
+        }
+        if ROWED.contains(&self.text) {
+            rows.extend([read_row(self), order_row(self, last), place(self)]);
         }
         let asked = ASKED.iter().find(|asked| asked.0 == self.text);
         rows.extend(asked.map(|(_, numerals)| member(self, numerals)));
@@ -348,6 +358,92 @@ fn count(command: &Command) -> Row<'_> {
     }
 }
 
+fn read_row(command: &Command) -> Row<'_> {
+    let bytes = command.text.as_bytes();
+    let mut out = vec![0; mml::RECORD_MAX];
+    let mut other = out.clone();
+    let (mut row, mut other_row) = ([0; mml::PLACES_MAX], [0; mml::PLACES_MAX]);
+    Row {
+        command: command.name,
+        call: "read_row",
+        text: bytes.len(),
+        record: Some(command.record.len()),
+        k: None,
+        orders: None,
+        library: Box::new(move || {
+            let (out, row) = (black_box(&mut out), black_box(&mut row));
+            let answer = mml::read_row(black_box(bytes), b"", out, row);
+            answer.map_or(0, |length| length as u32)
+        }),
+        model: Box::new(move || {
+            let (out, row) = (black_box(&mut other), black_box(&mut other_row));
+            let answer = model::read_row(black_box(bytes), b"", out, row);
+            answer.map_or(0, |length| length as u32)
+        }),
+    }
+}
+
+fn order_row(command: &Command, k: u64) -> Row<'_> {
+    let record = &command.record[..];
+    let mut out = vec![0; record.len()];
+    let mut other = out.clone();
+    let (mut row, mut other_row) = ([0; mml::PLACES_MAX], [0; mml::PLACES_MAX]);
+    Row {
+        command: command.name,
+        call: "order_row",
+        text: command.text.len(),
+        record: Some(record.len()),
+        k: Some(k),
+        orders: None,
+        library: Box::new(move || {
+            let (out, row) = (black_box(&mut out), black_box(&mut row));
+            let answer = mml::order_row(black_box(record), black_box(k), out, row);
+            answer.map_or(0, |length| length as u32)
+        }),
+        model: Box::new(move || {
+            let (out, row) = (black_box(&mut other), black_box(&mut other_row));
+            let answer = model::order_row(black_box(record), black_box(k), out, row);
+            answer.map_or(0, |length| length as u32)
+        }),
+    }
+}
+
+/// The last place, by the record's row. The value that is given is the bytes of its fields.
+fn place(command: &Command) -> Row<'_> {
+    let record = &command.record[..];
+    let row = row_of(command);
+    let other = row.clone();
+    let last = row.len() as u32 - 1;
+    Row {
+        command: command.name,
+        call: "place",
+        text: command.text.len(),
+        record: Some(record.len()),
+        k: Some(u64::from(last)),
+        orders: None,
+        library: Box::new(move || {
+            let answer = mml::place(black_box(record), black_box(&row), black_box(last));
+            answer.map_or(0, |fields| fields.len() as u32)
+        }),
+        model: Box::new(move || {
+            let answer = model::place(black_box(record), black_box(&other), black_box(last));
+            answer.map_or(0, |fields| fields.len() as u32)
+        }),
+    }
+}
+
+/// The row of a command's record, the same from both sides; it has places.
+fn row_of(command: &Command) -> Vec<u32> {
+    let text = command.text.as_bytes();
+    let mut record = vec![0; mml::RECORD_MAX];
+    let (mut row, mut other) = (vec![0; mml::PLACES_MAX], vec![0; mml::PLACES_MAX]);
+    mml::read_row(text, b"", &mut record, &mut row).expect("the command is right");
+    model::read_row(text, b"", &mut record, &mut other).expect("the command is right");
+    assert_eq!(row, other);
+    row.retain(|&offset| offset > 0);
+    row
+}
+
 /// The argument of these numerals in the first place. The value that is given is 1 + the position.
 fn member<'c>(command: &'c Command, numerals: &[u32]) -> Row<'c> {
     let record = &command.record[..];
@@ -455,7 +551,7 @@ impl Row<'_> {
     fn name(&self) -> String {
         let shown = |number: Option<u64>| number.map_or("-".into(), |number| number.to_string());
         format!(
-            "{:<13} {:<6} {:>5} {:>7} {:>6} {:>6}",
+            "{:<13} {:<9} {:>5} {:>7} {:>6} {:>6}",
             self.command,
             self.call,
             self.text,

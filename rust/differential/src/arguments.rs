@@ -140,7 +140,7 @@ fn question(random: &mut Random, places: &[Place]) -> Question {
 }
 
 /// The number of a place, most times of one that a record with so many places has.
-fn place_number(random: &mut Random, places: usize) -> u32 {
+pub fn place_number(random: &mut Random, places: usize) -> u32 {
     let past = places as u32;
     match random.below(12) {
         0 => random.pick(&[past + 1, 31, 32, 33, 256, 1 << 16, 1 << 31, u32::MAX]),

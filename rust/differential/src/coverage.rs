@@ -3,22 +3,25 @@
 use crate::compare::{Answer, Call};
 
 /// Numbers of answers: 0 for success, and those of the refusals up to the last.
-const NUMBERS: usize = 28;
+const NUMBERS: usize = 29;
+
+/// The numbers that reading can answer.
+const READING: &[usize] = &[
+    0, 1, 2, 3, 4, 5, 6, 7, 8, 9, 10, 11, 12, 13, 14, 15, 16, 17, 21,
+];
 
 /// Each call, and the numbers that it can answer.
-const CALLS: [(&str, &[usize]); 7] = [
-    (
-        "read",
-        &[
-            0, 1, 2, 3, 4, 5, 6, 7, 8, 9, 10, 11, 12, 13, 14, 15, 16, 17, 21,
-        ],
-    ),
+const CALLS: [(&str, &[usize]); 10] = [
+    ("read", READING),
     ("print", &[0, 2, 17, 18]),
     ("order", &[0, 17, 18, 19]),
     ("count", &[0, 18]),
     ("key", &[0, 20]),
     ("list", &[0, 17, 18]),
     ("member", &[0, 18, 26, 27]),
+    ("read_row", READING),
+    ("order_row", &[0, 17, 18, 19]),
+    ("place", &[0, 18, 26, 28]),
 ];
 
 /// Whether a call can answer this number.
@@ -42,6 +45,9 @@ impl Coverage {
             Call::Key(..) => 4,
             Call::List(_) => 5,
             Call::Member(..) => 6,
+            Call::ReadRow(..) => 7,
+            Call::OrderRow(..) => 8,
+            Call::Place(..) => 9,
         };
         let number = answer.err().map_or(0, |(number, _)| number as usize);
         self.0[kind][number] += 1;
@@ -60,7 +66,7 @@ impl Coverage {
     /// A line for each call with what it answered.
     pub fn show(&self) {
         for ((name, _), answers) in CALLS.iter().zip(&self.0) {
-            let mut line = format!("{name:<6} done {}", answers[0]);
+            let mut line = format!("{name:<9} done {}", answers[0]);
             for (number, times) in answers.iter().enumerate().skip(1) {
                 if *times > 0 {
                     line.push_str(&format!(", refused {number}: {times}"));
@@ -103,6 +109,9 @@ mod tests {
             Call::Key(b"", 0),
             Call::List(b""),
             Call::Member(b"", 0, b""),
+            Call::ReadRow(b"", b""),
+            Call::OrderRow(b"", 0),
+            Call::Place(b"", &[], 0),
         ];
         let mut coverage = Coverage::default();
         for (kind, (_, numbers)) in CALLS.iter().enumerate() {
@@ -119,14 +128,17 @@ mod tests {
 
     #[test]
     fn what_no_call_answered_is_missing() {
-        assert_eq!(Coverage::default().missing().len(), 38);
+        assert_eq!(Coverage::default().missing().len(), 65);
         assert_eq!(all_but((0, 16)), ["read 16"]);
         assert_eq!(all_but((2, 19)), ["order 19"]);
         assert_eq!(all_but((3, 0)), ["count 0"]);
         assert_eq!(all_but((4, 20)), ["key 20"]);
         assert_eq!(all_but((5, 17)), ["list 17"]);
         assert_eq!(all_but((6, 27)), ["member 27"]);
-        assert!(all_but((9, 9)).is_empty());
+        assert_eq!(all_but((7, 21)), ["read_row 21"]);
+        assert_eq!(all_but((8, 19)), ["order_row 19"]);
+        assert_eq!(all_but((9, 28)), ["place 28"]);
+        assert!(all_but((10, 9)).is_empty());
     }
 
     #[test]

@@ -73,7 +73,11 @@ mod tests {
     fn take(keeper: &mut Vec<u8>, key: u8, keys: &mut Keys) {
         let mut bytes = keeper.clone();
         let answer = Call::Key(keeper, key).model(&mut bytes);
-        let outcome = Outcome { answer, bytes };
+        let outcome = Outcome {
+            answer,
+            bytes,
+            row: Vec::new(),
+        };
         keys.note(keeper, key, &outcome);
         *keeper = outcome.bytes;
     }

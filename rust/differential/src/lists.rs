@@ -87,7 +87,8 @@ mod tests {
         let mut lists = Lists::default();
         let bytes = list(text);
         let answer = Ok(bytes.len() as u32);
-        lists.note(Call::List(b""), &Outcome { answer, bytes });
+        let row = Vec::new();
+        lists.note(Call::List(b""), &Outcome { answer, bytes, row });
         lists.sights().map(|(_, times)| times)
     }
 

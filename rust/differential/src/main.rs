@@ -3,10 +3,12 @@
 //! `differential [SEED [COUNT [show]]]` takes the lines of the documents and then makes inputs
 //! from SEED, COUNT in all: commands that are right, nearly right and damaged, and records of
 //! all kinds. Each goes through the calls on both
-//! sides, with buffers that are large, just fit, are one byte too short and empty. Other inputs
-//! are runs of keys to a keeper. Answers and all bytes must be alike, a keeper's too. Then the
-//! library alone must keep what its calls promise together: a list's pieces are the orders, and an
-//! argument that stands in a place is what the order has there that takes it.
+//! sides, with buffers that are large, just fit, are one byte too short and empty, and with rows
+//! that have too few slots, just enough and more. Other inputs are runs of keys to a keeper. Answers
+//! and all bytes must be alike, a keeper's and a row's too. Then the library alone must keep what
+//! its calls promise together: a list's pieces are the orders, an argument that stands in a place
+//! is what the order has there that takes it, and the fields of the places, with what is between
+//! them, are the record.
 //! Lists that are long are written now and then; of the others the bytes needed are compared.
 //! The first difference ends the run with the input in full. With `show` each input is
 //! printed before it is tried, for a library that does not return.
@@ -16,8 +18,8 @@
 //! call gave each answer that it can give: success and, all calls together, every refusal; and
 //! unless the inputs that were made had numerals in small letters, read in commands and refused
 //! in records, had records refused for the number of their orders alone, gave lists of each kind,
-//! asked for arguments of each kind, and showed all that keys do. The same SEED gives the same
-//! inputs.
+//! asked for arguments of each kind, filled rows and asked by rows of each kind, and showed all that
+//! keys do. The same SEED gives the same inputs.
 
 mod arguments;
 mod commands;
@@ -30,19 +32,22 @@ mod lines;
 mod lists;
 mod members;
 mod names;
+mod offsets;
 mod order_counts;
 mod random;
 mod records;
+mod rows;
 mod small_letters;
 #[cfg(feature = "direct")]
 mod watched;
 
 use std::env;
+use std::ops::Range;
 use std::process::ExitCode;
 use std::time::{Duration, Instant};
 
 use arguments::{Place, Question};
-use compare::{Answer, Call, Difference, Outcome};
+use compare::{Answer, Call, Difference, Lent, Outcome};
 use coverage::Coverage;
 use keys::{Keys, READY};
 use library::Library;
@@ -50,6 +55,7 @@ use lists::Lists;
 use members::Members;
 use order_counts::OrderCounts;
 use random::Random;
+use rows::Rows;
 use small_letters::SmallLetters;
 
 /// A run ends after this time if it had enough inputs.
@@ -160,6 +166,7 @@ struct Run {
     order_counts: OrderCounts,
     lists: Lists,
     members: Members,
+    rows: Rows,
     keys: Keys,
     /// Records of accepted commands.
     pool: Vec<Vec<u8>>,
@@ -181,6 +188,7 @@ impl Run {
             order_counts: OrderCounts::default(),
             lists: Lists::default(),
             members: Members::default(),
+            rows: Rows::default(),
             keys: Keys::default(),
             pool: vec![vec![12, 0, 4, 0, 0, 0, 1, 1, 0, 1, b'A']],
         }
@@ -202,6 +210,7 @@ impl Run {
             self.order_counts.missing(),
             self.lists.missing(),
             self.members.missing(),
+            self.rows.missing(),
             self.keys.missing(),
         ];
         match missing.concat() {
@@ -278,6 +287,7 @@ impl Run {
     /// Tries a command with all buffers, then its record.
     fn command(&mut self, text: &[u8], bases: &[u8]) -> Result<(), Difference> {
         let read = self.all_rooms(Call::Read(text, bases))?;
+        self.all_rows(Call::ReadRow(text, bases), &read)?;
         if read.answer.is_err() {
             return Ok(());
         }
@@ -301,12 +311,13 @@ impl Run {
     /// Tries a record with all calls and buffers.
     fn record(&mut self, record: &[u8]) -> Result<(), Difference> {
         self.members(record)?;
+        self.places(record)?;
         self.all_rooms(Call::Print(record))?;
         let count = self.all_rooms(Call::Count(record))?.answer;
         let list = self.all_rooms(Call::List(record))?;
         let Ok(count) = count else {
             let k = self.random.pick(&[0, 1, u64::MAX]);
-            self.all_rooms(Call::Order(record, k))?;
+            self.order(record, k)?;
             return Ok(());
         };
         self.well_formed += 1;
@@ -315,7 +326,7 @@ impl Run {
             .random
             .pick(&[count + 1, count + (1 << 32), 1 << 63, u64::MAX]);
         for k in [count, (1 << 32) + count - 1, past] {
-            self.all_rooms(Call::Order(record, k))?;
+            self.order(record, k)?;
         }
         let all = count <= 12;
         let tries = if all { count } else { 5 };
@@ -326,13 +337,87 @@ impl Run {
                 1 => count - 1,
                 _ => self.random.below(count as usize) as u64,
             };
-            let order = self.all_rooms(Call::Order(record, k))?;
-            self.order(record, k, &order.bytes)?;
+            let order = self.order(record, k)?;
+            self.kept_order(record, k, &order.bytes)?;
         }
         match list.answer {
             Ok(_) => self.pieces(record, count, &list.bytes),
             Err(_) => Ok(()),
         }
+    }
+
+    /// Tries order `k` of a record, and its row.
+    fn order(&mut self, record: &[u8], k: u64) -> Result<Outcome, Difference> {
+        let order = self.all_rooms(Call::Order(record, k))?;
+        self.all_rows(Call::OrderRow(record, k), &order)?;
+        Ok(order)
+    }
+
+    /// Tries a call that fills a row with buffers and rows that are more than enough, just enough
+    /// and too short. It must write what the same call without a row wrote, and the offsets of it.
+    fn all_rows(&mut self, call: Call, alone: &Outcome) -> Result<(), Difference> {
+        self.announce(call);
+        let record = &alone.bytes;
+        let offsets = offsets::offsets(record);
+        let rooms = match alone.answer {
+            Ok(_) => offsets::rooms(&mut self.random, record.len(), offsets.len()),
+            Err(_) => vec![(self.random.below(100), self.random.below(4))],
+        };
+        for (room, slots) in rooms {
+            let lent = Lent::soiled(&mut self.random, room, slots);
+            let outcome = call.compare_row(&mut self.library, &lent.out, &lent.row)?;
+            self.calls += 1;
+            self.answers.note(call, outcome.answer);
+            if self.is_made() && alone.answer.is_ok() {
+                self.rows.note_filled(record, &lent, outcome.answer);
+            }
+            let filled = outcome.answer.is_ok();
+            if filled && (outcome.bytes != *record || outcome.row != offsets) {
+                return Err(call.alone("the record or its row is another one"));
+            }
+        }
+        Ok(())
+    }
+
+    /// Asks for places of a record by rows; one question is enough for a record that is not well
+    /// formed.
+    fn places(&mut self, record: &[u8]) -> Result<(), Difference> {
+        let offsets = offsets::offsets(record);
+        for question in offsets::questions(&mut self.random, &offsets) {
+            let call = Call::Place(record, &question.row, question.place);
+            self.announce(call);
+            let answer = call.compare_on(&mut self.library, &[])?.answer;
+            self.calls += 1;
+            self.answers.note(call, answer);
+            if self.is_made() {
+                self.rows.note_asked(record, &question, answer);
+            }
+            if matches!(answer, Err((NOT_WELL_FORMED, _))) {
+                return Ok(());
+            }
+        }
+        self.pages(record, &offsets)
+    }
+
+    /// What the library alone must keep of a record's places: by its row each hands back its own
+    /// fields, and these, with what is between them, are the record.
+    fn pages(&mut self, record: &[u8], row: &[u32]) -> Result<(), Difference> {
+        let mut pages: Vec<Range<usize>> = Vec::new();
+        for (place, &offset) in row.iter().enumerate() {
+            let call = Call::Place(record, row, place as u32);
+            let length = match self.ask(call, &mut [])? {
+                Ok(length) => length as usize,
+                Err((number, slot)) => {
+                    return Err(call.alone(&format!("not handed back: {number} at {slot}")))
+                }
+            };
+            pages.push(offset as usize..offset as usize + length);
+        }
+        if pages != offsets::pages(record) || !offsets::are_whole(record, &pages) {
+            let call = Call::Place(record, row, 0);
+            return Err(call.alone(&format!("the places are not the record: {pages:?}")));
+        }
+        Ok(())
     }
 
     /// Asks for arguments in the places of a record; one question is enough for a record that is
@@ -457,7 +542,7 @@ impl Run {
 
     /// What the library alone must keep of an order: it is not longer than the record, its
     /// text gives it again, and it is its own sole order.
-    fn order(&mut self, record: &[u8], k: u64, order: &[u8]) -> Result<(), Difference> {
+    fn kept_order(&mut self, record: &[u8], k: u64, order: &[u8]) -> Result<(), Difference> {
         self.orders += 1;
         let call = Call::Order(record, k);
         if order.len() > record.len() {
@@ -520,6 +605,7 @@ impl Run {
         self.order_counts.show();
         self.lists.show();
         self.members.show();
+        self.rows.show();
         self.keys.show();
     }
 }

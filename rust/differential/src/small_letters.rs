@@ -153,7 +153,8 @@ mod tests {
         let mut bytes = vec![0; ROOM];
         let answer = call.model(&mut bytes);
         bytes.truncate(answer.map_or(0, |length| length as usize));
-        Outcome { answer, bytes }
+        let row = Vec::new();
+        Outcome { answer, bytes, row }
     }
 
     /// What one call shows, and how often.

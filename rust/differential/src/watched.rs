@@ -1,56 +1,53 @@
-//! Buffers with watched bytes around them, for the library that is linked in.
+//! Buffers and rows with watched bytes around them, for the library that is linked in.
 
 use std::array;
 
-/// Watched bytes on each side, at least.
+/// Watched bytes or slots on each side, at least.
 const GUARD: usize = 40;
 
-/// How far a buffer may start behind a multiple of 8.
+/// How far a buffer may start behind a multiple of 8; a row starts as many slots behind one.
 const OFFSETS: usize = 8;
 
-/// A buffer between watched bytes.
-pub struct Watched {
-    bytes: Vec<u8>,
+/// A buffer of bytes, or a row of slots, between watched ones.
+pub struct Watched<T> {
+    all: Vec<T>,
     start: usize,
     key: u8,
 }
 
-impl Watched {
-    /// A buffer that has these bytes; the turn decides where it starts.
-    pub fn with(turn: usize, bytes: &[u8]) -> Watched {
+impl<T: Copy + PartialEq + From<u8>> Watched<T> {
+    /// A buffer that has these bytes, or a row that has these slots; the turn decides where it
+    /// starts.
+    pub fn with(turn: usize, content: &[T]) -> Watched<T> {
         let key = turn as u8;
         let start = GUARD + turn % OFFSETS;
-        let length = start + bytes.len() + GUARD;
-        let mut all: Vec<u8> = (0..length).map(|at| canary(key, at)).collect();
-        all[start..start + bytes.len()].copy_from_slice(bytes);
-        Watched {
-            bytes: all,
-            start,
-            key,
-        }
+        let length = start + content.len() + GUARD;
+        let mut all: Vec<T> = (0..length).map(|at| canary(key, at).into()).collect();
+        all[start..start + content.len()].copy_from_slice(content);
+        Watched { all, start, key }
     }
 
     /// Where the buffer ends.
     fn end(&self) -> usize {
-        self.bytes.len() - GUARD
+        self.all.len() - GUARD
     }
 
     /// The buffer.
-    pub fn buffer(&self) -> &[u8] {
-        &self.bytes[self.start..self.end()]
+    pub fn buffer(&self) -> &[T] {
+        &self.all[self.start..self.end()]
     }
 
     /// The buffer, to be written.
-    pub fn buffer_mut(&mut self) -> &mut [u8] {
+    pub fn buffer_mut(&mut self) -> &mut [T] {
         let end = self.end();
-        &mut self.bytes[self.start..end]
+        &mut self.all[self.start..end]
     }
 
-    /// Whether all watched bytes are what they were.
+    /// Whether all that is watched is what it was.
     pub fn is_unharmed(&self) -> bool {
         (0..self.start)
-            .chain(self.end()..self.bytes.len())
-            .all(|at| self.bytes[at] == canary(self.key, at))
+            .chain(self.end()..self.all.len())
+            .all(|at| self.all[at] == canary(self.key, at).into())
     }
 }
 
@@ -126,9 +123,24 @@ mod tests {
             watched.buffer_mut().fill(b'x');
             assert!(watched.is_unharmed());
             for at in [watched.start - 1, watched.end()] {
-                watched.bytes[at] ^= 1;
+                watched.all[at] ^= 1;
                 assert!(!watched.is_unharmed());
-                watched.bytes[at] ^= 1;
+                watched.all[at] ^= 1;
+            }
+        }
+    }
+
+    #[test]
+    fn a_slot_beside_the_row_is_noticed() {
+        for turn in 0..16 {
+            let mut watched = Watched::with(turn, &[5u32, 6, 7]);
+            assert_eq!(watched.buffer(), [5, 6, 7]);
+            watched.buffer_mut().fill(u32::MAX);
+            assert!(watched.is_unharmed());
+            for at in [watched.start - 1, watched.end()] {
+                watched.all[at] ^= 1 << 31;
+                assert!(!watched.is_unharmed());
+                watched.all[at] ^= 1 << 31;
             }
         }
     }

@@ -4,10 +4,11 @@
 //! ready. [`read`] makes a record of a command's text, [`print`] a command's text of a record,
 //! [`count`] tells how many orders a record has, [`order`] gives order number `k` as a record, and
 //! [`list`] writes all of them, for [`pieces`] to walk over. [`member`] tells whether a place of a
-//! record has an argument, and where. The library keeps no state: a line is held by its keeper
-//! alone. The calls allocate nothing and may run on any number of threads at once. A call that
-//! refuses writes nothing; a call that succeeds writes the bytes that it answers at the buffer's
-//! start and leaves the rest of the buffer as it was.
+//! record has an argument, and where. [`read_row`] and [`order_row`] also fill a row with the
+//! offsets of the record's places, by which [`place`] gives the fields of one. The library keeps no
+//! state: a line is held by its keeper alone. The calls allocate nothing and may run on any number
+//! of threads at once. A call that refuses writes nothing; a call that succeeds writes the bytes
+//! that it answers at the buffer's start and leaves the rest of the buffer as it was.
 //!
 //! ```
 //! let mut record = [0; 128];
@@ -42,6 +43,10 @@ pub const RECORD_MAX: usize = 65_536;
 
 /// The most base letters, and so the most places of a command.
 pub const BASES_MAX: usize = 32;
+
+/// The most places of a command: a row of so many slots always suffices for [`read_row`] and
+/// [`order_row`].
+pub const PLACES_MAX: usize = 32;
 
 /// The key that removes the last byte held.
 pub const KEY_BS: u8 = 8;
@@ -142,8 +147,10 @@ refusals! {
     /// A value has over 4,096 arguments, or the command over 65,535 orders. Place: the value
     /// with which it does.
     16 TooMany "the value has over 4,096 arguments or the command over 65,535 orders";
-    /// The buffer is too short. Place: the bytes needed.
-    17 BufferTooShort "the buffer is too short";
+    /// The buffer is too short. Place: the bytes needed. Of [`read_row`] and [`order_row`] also,
+    /// where the buffer suffices: the row is too short. Place: the slots needed. A place above the
+    /// buffer's length is bytes, any other slots.
+    17 BufferTooShort "the buffer or the row is too short";
     /// The record is not well formed; one that does not begin with the number of its orders is
     /// none. Place: 0.
     18 Record "the record is not well formed";
@@ -155,11 +162,15 @@ refusals! {
     /// The name stands already in its block, all pieces equal byte for byte; in another block it
     /// may stand again. Place: the second name's first token.
     21 NameTwice "the name stands already in its block";
-    /// The record has no such place, or the place is omitted. Place: the number asked for.
+    /// The record has no such place; of [`member`] also: the place is omitted. Place: the number
+    /// asked for.
     26 NoPlace "there is no place with this number, or it is omitted";
     /// The argument is not 1 to 4 unit fields that could stand under the base of its place.
     /// Place: 0.
     27 Argument "the argument is not 1 to 4 unit fields that could stand in its place";
+    /// The row is not the record's: it is shorter than the places, or a slot differs from the
+    /// offset of its place. Place: the first slot that is missing or differs.
+    28 Row "the row is shorter than the places, or a slot differs";
 }
 
 impl fmt::Display for Refusal {
@@ -191,6 +202,32 @@ extern "C" {
         place: u32,
         argument: *const u8,
         argument_len: usize,
+    ) -> u64;
+    fn mml_read_row(
+        text: *const u8,
+        text_len: usize,
+        bases: *const u8,
+        bases_len: usize,
+        out: *mut u8,
+        out_len: usize,
+        row: *mut u32,
+        row_len: usize,
+    ) -> u64;
+    fn mml_order_row(
+        record: *const u8,
+        record_len: usize,
+        k: u64,
+        out: *mut u8,
+        out_len: usize,
+        row: *mut u32,
+        row_len: usize,
+    ) -> u64;
+    fn mml_place(
+        record: *const u8,
+        record_len: usize,
+        row: *const u32,
+        row_len: usize,
+        place: u32,
     ) -> u64;
     fn mml_key(keeper: *mut Keeper, key: u8) -> u64;
 }
@@ -361,6 +398,100 @@ pub fn member(record: &[u8], place: u32, argument: &[u8]) -> Result<Option<u32>,
     value_of(answer).map(|value| value.checked_sub(1))
 }
 
+/// Reads one command as [`read`] does, and fills a row with the offsets of its places: slot n is
+/// where the field of place n begins, in bytes from the record's start. Places count from 0 through
+/// all blocks, omitted ones included. Slots beyond the places keep their numbers; no offset is 0.
+/// Gives the length of the record. Refuses as [`read`] does, then with [`Refusal::BufferTooShort`]
+/// where the row has fewer slots than the command has places; its place is the slots needed. A
+/// refusal writes neither the buffer nor the row.
+///
+/// ```
+/// let mut record = [0; 128];
+/// let mut row = [0; mml::PLACES_MAX];
+/// let length = mml::read_row(b"SET-ATT:LIN=7-1&&-3,LEV=3.5;", b"DD", &mut record, &mut row)?;
+/// assert_eq!(length, 84);
+/// assert_eq!(row[..3], [23, 62, 0]);
+/// # Ok::<(), mml::Refusal>(())
+/// ```
+pub fn read_row(
+    text: &[u8],
+    bases: &[u8],
+    out: &mut [u8],
+    row: &mut [u32],
+) -> Result<usize, Refusal> {
+    // SAFETY: each pointer and length are those of one slice, and only `out` and `row` are written.
+    let answer = unsafe {
+        mml_read_row(
+            text.as_ptr(),
+            text.len(),
+            bases.as_ptr(),
+            bases.len(),
+            out.as_mut_ptr(),
+            out.len(),
+            row.as_mut_ptr(),
+            row.len(),
+        )
+    };
+    value_of(answer).map(|length| length as usize)
+}
+
+/// Gives order `k` of a record as [`order`] does, and fills a row with the offsets of the order's
+/// places as [`read_row`] does. Gives the order's length.
+pub fn order_row(record: &[u8], k: u64, out: &mut [u8], row: &mut [u32]) -> Result<usize, Refusal> {
+    // SAFETY: each pointer and length are those of one slice, and only `out` and `row` are written.
+    let answer = unsafe {
+        mml_order_row(
+            record.as_ptr(),
+            record.len(),
+            k,
+            out.as_mut_ptr(),
+            out.len(),
+            row.as_mut_ptr(),
+            row.len(),
+        )
+    };
+    value_of(answer).map(|length| length as usize)
+}
+
+/// Gives the fields of a place, as part of the record itself, by the row of the record's offsets:
+/// the place's own field, its name pieces if it has a name, and its value if it is not omitted.
+/// Record and row may be anything: all of both is judged, whatever place is asked for. Slots behind
+/// the places are not looked at. Refuses with [`Refusal::Record`], then [`Refusal::Row`], then
+/// [`Refusal::NoPlace`].
+///
+/// ```
+/// let mut record = [0; 128];
+/// let mut row = [0; mml::PLACES_MAX];
+/// let length = mml::read_row(b"A:,UP;", b"", &mut record, &mut row)?;
+/// let record = &record[..length];
+///
+/// assert_eq!(mml::place(record, &row, 0)?, b"\x03\0\x01D");
+/// assert_eq!(mml::place(record, &row, 1)?, b"\x03\0\x01D\x05\0\0\x09\0\x02UP");
+/// assert_eq!(mml::place(record, &row, 2), Err(mml::Refusal::NoPlace(2)));
+/// row[1] += 1;
+/// assert_eq!(mml::place(record, &row, 0), Err(mml::Refusal::Row(1)));
+/// # Ok::<(), mml::Refusal>(())
+/// ```
+///
+/// A record and its row that one call wrote, unchanged since, need no judging: there `row[n]` is
+/// the offset of place n, and `record[row[n] as usize..]` begins with its fields.
+pub fn place<'r>(record: &'r [u8], row: &[u32], place: u32) -> Result<&'r [u8], Refusal> {
+    // SAFETY: each pointer and length are those of one slice, and nothing is written.
+    let answer = unsafe {
+        mml_place(
+            record.as_ptr(),
+            record.len(),
+            row.as_ptr(),
+            row.len(),
+            place,
+        )
+    };
+    let length = value_of(answer)? as usize;
+    // The row was let pass: it has this slot, and so many bytes of the record stand behind it.
+    let offset = row[place as usize] as usize;
+    Ok(&record[offset..offset + length])
+}
+
 /// A line keeper: takes what an operator types, one key at a time.
 ///
 /// [`KEY_BS`] removes the last byte held, and does nothing on an empty line. [`KEY_CAN`] empties
@@ -447,11 +578,12 @@ mod tests {
         assert_eq!(value_of((21 << 32) + 8), Err(Refusal::NameTwice(8)));
         assert_eq!(value_of((26 << 32) + 2), Err(Refusal::NoPlace(2)));
         assert_eq!(value_of(27 << 32), Err(Refusal::Argument(0)));
+        assert_eq!(value_of((28 << 32) + 3), Err(Refusal::Row(3)));
     }
 
     #[test]
     fn high_bits_of_the_number_are_not_cut() {
-        for number in [22, 25, 28, 256, 256 + 14, 1 << 16, 1 << 31, u32::MAX] {
+        for number in [22, 25, 29, 256, 256 + 14, 1 << 16, 1 << 31, u32::MAX] {
             let answer = (u64::from(number) << 32) + 5;
             assert_eq!(value_of(answer), Err(Refusal::Unknown(number, 5)));
         }

@@ -1,4 +1,4 @@
-//! The seven calls through the wrapper.
+//! The ten calls through the wrapper.
 
 use std::mem::{align_of, offset_of, size_of};
 
@@ -185,6 +185,124 @@ fn every_refusal_of_member() {
     assert_eq!(answer, Err(Refusal::NoPlace(0)));
 }
 
+/// The record of a command without base letters, and its row.
+fn rowed(text: &[u8]) -> (Vec<u8>, Vec<u32>) {
+    let mut out = vec![0; mml::RECORD_MAX];
+    let mut row = vec![0; mml::PLACES_MAX];
+    let length = mml::read_row(text, b"", &mut out, &mut row).unwrap();
+    out.truncate(length);
+    row.retain(|&offset| offset > 0);
+    (out, row)
+}
+
+#[test]
+fn a_command_is_read_with_its_row() {
+    let (record, row) = rowed(TEXT);
+    assert_eq!(record, self::record());
+    assert_eq!(row, [23, 62]);
+    let (record, row) = rowed(b"A;");
+    assert_eq!((record.len(), row.len()), (11, 0));
+}
+
+#[test]
+fn an_order_is_given_with_its_row() {
+    let record = record();
+    let mut alone = vec![0; record.len()];
+    for k in 0..3 {
+        let mut order = vec![0; record.len()];
+        let mut row = [7; 3];
+        let length = mml::order_row(&record, k, &mut order, &mut row).unwrap();
+        assert_eq!(mml::order(&record, k, &mut alone), Ok(length));
+        assert_eq!(order, alone);
+        assert_eq!(row, [23, 54, 7]);
+        assert_eq!(&order[54..58], &[3, 0, 1, b'D']);
+    }
+}
+
+#[test]
+fn as_many_places_as_there_may_be() {
+    let text = format!("A:{};", ",".repeat(mml::PLACES_MAX - 1));
+    let (record, row) = rowed(text.as_bytes());
+    assert_eq!(row.len(), mml::PLACES_MAX);
+    assert_eq!(mml::place(&record, &row, 31), Ok(&b"\x03\0\x01D"[..]));
+    let mut out = [7; 200];
+    let mut short = [9; mml::PLACES_MAX - 1];
+    let read = mml::read_row(text.as_bytes(), b"", &mut out, &mut short);
+    assert_eq!(read, Err(Refusal::BufferTooShort(32)));
+    let order = mml::order_row(&record, 0, &mut out, &mut short);
+    assert_eq!(order, Err(Refusal::BufferTooShort(32)));
+    assert_eq!((out, short), ([7; 200], [9; mml::PLACES_MAX - 1]));
+}
+
+#[test]
+fn the_fields_of_a_place_are_a_part_of_the_record() {
+    let (record, row) = rowed(TEXT);
+    let long = [&row[..], &[0, u32::MAX]].concat();
+    for row in [&row, &long] {
+        let line = mml::place(&record, row, 0).unwrap();
+        let level = mml::place(&record, row, 1).unwrap();
+        assert_eq!(line.as_ptr_range(), record[23..62].as_ptr_range());
+        assert_eq!(level.as_ptr_range(), record[62..].as_ptr_range());
+    }
+    let (record, row) = rowed(b"A:,5:;");
+    let lengths = [0, 1, 2].map(|place| mml::place(&record, &row, place).map(<[u8]>::len));
+    assert_eq!(lengths, [Ok(4), Ok(16), Ok(4)]);
+}
+
+/// The part lives as long as the record, not as the row.
+#[test]
+fn a_row_may_go_before_the_part() {
+    let record = record();
+    let level = {
+        let row = [23, 62];
+        mml::place(&record, &row, 1).unwrap()
+    };
+    assert_eq!(level[4..10], [4, 0, 3, b'L', b'E', b'V']);
+}
+
+#[test]
+fn every_refusal_of_place() {
+    let (mut record, row) = rowed(b"A:5,6:,N;");
+    for slots in 0..row.len() {
+        let answer = mml::place(&record, &row[..slots], 4);
+        assert_eq!(answer, Err(Refusal::Row(slots as u32)));
+        let mut wrong = row.clone();
+        wrong[slots] ^= 1 << 31;
+        wrong[3] = 0;
+        let answer = mml::place(&record, &wrong, 0);
+        assert_eq!(answer, Err(Refusal::Row(slots as u32)));
+    }
+    for place in [4, 32, 1 << 16, u32::MAX] {
+        let answer = mml::place(&record, &row, place);
+        assert_eq!(answer, Err(Refusal::NoPlace(place)));
+    }
+    record[6] = 2;
+    assert_eq!(mml::place(&record, &row, 0), Err(Refusal::Record(0)));
+    assert_eq!(mml::place(&record, &[], 4), Err(Refusal::Record(0)));
+}
+
+#[test]
+fn the_bytes_needed_go_before_the_slots_needed() {
+    let record = record();
+    let mut out = [7; 84];
+    let mut row = [9; 2];
+    for (room, slots, needed) in [(0, 0, 84), (83, 1, 84), (83, 2, 84), (84, 0, 2), (84, 1, 2)] {
+        let (out, row) = (&mut out[..room], &mut row[..slots]);
+        let too_short = Err(Refusal::BufferTooShort(needed));
+        assert_eq!(mml::read_row(TEXT, b"DD", out, row), too_short);
+    }
+    for (room, slots, needed) in [(0, 0, 76), (75, 2, 76), (76, 1, 2)] {
+        let (out, row) = (&mut out[..room], &mut row[..slots]);
+        let too_short = Err(Refusal::BufferTooShort(needed));
+        assert_eq!(mml::order_row(&record, 2, out, row), too_short);
+    }
+    let order = mml::order_row(&record, 3, &mut [], &mut []);
+    assert_eq!(order, Err(Refusal::NoOrder(3)));
+    let read = mml::read_row(b"A:9&&5;", b"", &mut out, &mut row);
+    assert_eq!(read, Err(Refusal::Group(5)));
+    assert_eq!((out, row), ([7; 84], [9; 2]));
+}
+
 #[test]
 fn the_number_of_orders_that_a_record_begins_with() {
     let mut record = record();
@@ -197,6 +315,9 @@ fn the_number_of_orders_that_a_record_begins_with() {
         assert_eq!(mml::order(&record, 0, &mut text), Err(Refusal::Record(0)));
         assert_eq!(mml::list(&record, &mut text), Err(Refusal::Record(0)));
         assert_eq!(mml::member(&record, 0, &[]), Err(Refusal::Record(0)));
+        let order = mml::order_row(&record, 0, &mut text, &mut []);
+        assert_eq!(order, Err(Refusal::Record(0)));
+        assert_eq!(mml::place(&record, &[], 0), Err(Refusal::Record(0)));
     }
 }
 
@@ -252,14 +373,14 @@ fn every_refusal_of_the_reader() {
 #[test]
 fn every_number_has_its_refusal() {
     let mut sentences = Vec::new();
-    for number in (1..=21).chain(26..=27) {
+    for number in (1..=21).chain(26..=28) {
         let refusal = Refusal::new(number, 5);
         assert!(!matches!(refusal, Refusal::Unknown(..)));
         assert_eq!((refusal.number(), refusal.place()), (number, 5));
         assert!(!sentences.contains(&refusal.sentence()));
         sentences.push(refusal.sentence());
     }
-    for number in [0, 22, 25, 28, 270, u32::MAX] {
+    for number in [0, 22, 25, 29, 270, u32::MAX] {
         let refusal = Refusal::new(number, 5);
         assert_eq!(refusal, Refusal::Unknown(number, 5));
         assert_eq!((refusal.number(), refusal.place()), (number, 5));
@@ -285,6 +406,12 @@ fn empty_slices_may_stand_anywhere() {
     assert_eq!(mml::list(&[], &mut []), Err(Refusal::Record(0)));
     assert_eq!(mml::member(&[], 0, &[]), Err(Refusal::Record(0)));
     assert_eq!(mml::member(&record(), 0, &[]), Err(Refusal::Argument(0)));
+    let read = mml::read_row(&[], &[], &mut [], &mut []);
+    assert_eq!(read, Err(Refusal::NoEnd(0)));
+    let order = mml::order_row(&[], 0, &mut [], &mut []);
+    assert_eq!(order, Err(Refusal::Record(0)));
+    assert_eq!(mml::place(&[], &[], 0), Err(Refusal::Record(0)));
+    assert_eq!(mml::place(&record(), &[], 0), Err(Refusal::Row(0)));
 }
 
 /// Takes keys to a keeper, all of which must be taken; gives whether the line is ready behind the

@@ -106,6 +106,12 @@ pub fn is_element(tag: u8) -> bool {
     tag == SINGLE || tag == RANGE
 }
 
+/// Whether a field with this tag belongs to the place that stands before it: its name and value.
+#[inline(always)]
+pub fn goes_on(tag: u8) -> bool {
+    tag == NAME_PIECE || is_element(tag) || is_unit(tag)
+}
+
 /// Upper end and increment from the content of a range element.
 #[inline(always)]
 pub fn range(content: &[u8]) -> Option<(u32, u32)> {

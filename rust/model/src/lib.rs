@@ -4,8 +4,10 @@
 //! document 02 that have landed, in plain Rust without allocation: [`key`] takes what is typed to
 //! the line of a [`Keeper`], [`read`] makes a record of a command, [`print`] a command of a record,
 //! [`count`] tells how many orders a record has, [`order`] gives one of them, [`list`] all, and
-//! [`member`] tells where an argument stands in a place. A call that refuses writes nothing; a call
-//! that succeeds writes exactly the bytes it answers, and a key that is held one byte.
+//! [`member`] tells where an argument stands in a place. [`read_row`] and [`order_row`] fill a row
+//! with the offsets of the places beside, and [`place`] gives the fields of one by it. A call that
+//! refuses writes nothing; a call that succeeds writes exactly the bytes it answers and one slot for
+//! each place, and a key that is held one byte.
 //!
 //! The model is what the library is compared with, in its answers and in its speed.
 
@@ -24,6 +26,7 @@ mod orders;
 mod printer;
 mod reader;
 mod records;
+mod rows;
 mod tokens;
 mod units;
 mod writer;
@@ -31,17 +34,18 @@ mod writer;
 pub use keeper::{key, Keeper};
 pub use lists::list;
 pub use members::member;
-pub use orders::{count, order};
+pub use orders::{count, order, order_row};
 pub use printer::print;
-pub use reader::read;
+pub use reader::{read, read_row};
+pub use rows::place;
 
 /// A refusal: its number and its place, as the documents list them.
 #[derive(Clone, Copy, Debug, PartialEq, Eq)]
 pub struct Refusal {
-    /// 1 to 21, 26 or 27.
+    /// 1 to 21, or 26 to 28.
     pub number: u8,
     /// A place in the text, an index of the base letters, a size, or the number of a place of the
-    /// record: by the number.
+    /// record, which is that of its slot too: by the number.
     pub place: u32,
 }
 

@@ -2,9 +2,8 @@
 
 use crate::fields::{self, Fields};
 use crate::groups::terms;
-use crate::records::{judge, Group};
-use crate::writer;
-use crate::{limits, Refusal};
+use crate::records::{judge, judge_places, Group};
+use crate::{limits, rows, writer, Refusal};
 
 /// The number of orders of a record.
 pub fn count(record: &[u8]) -> Result<u32, Refusal> {
@@ -13,19 +12,37 @@ pub fn count(record: &[u8]) -> Result<u32, Refusal> {
 
 /// Order `k` of a record. On success it stands at the buffer's start; gives its length.
 pub fn order(record: &[u8], k: u64, out: &mut [u8]) -> Result<usize, Refusal> {
+    order_within(record, k, out, usize::MAX)
+}
+
+/// Order `k` of a record as [`order`] gives it, and fills a row with the offsets of its places;
+/// slots beyond the places keep their numbers.
+pub fn order_row(record: &[u8], k: u64, out: &mut [u8], row: &mut [u32]) -> Result<usize, Refusal> {
+    let length = order_within(record, k, out, row.len())?;
+    for (slot, place) in row.iter_mut().zip(rows::places(&out[..length])) {
+        *slot = place.offset;
+    }
+    Ok(length)
+}
+
+/// Order `k` of a record that has at most so many places as there are slots.
+fn order_within(record: &[u8], k: u64, out: &mut [u8], slots: usize) -> Result<usize, Refusal> {
     let mut reductions = [Reduction::NONE; limits::PLACES];
     let mut groups = 0;
-    let orders = judge(record, |group| {
+    let judged = judge_places(record, |group| {
         reductions[groups] = Reduction::of(group);
         groups += 1;
     });
-    let orders = orders.ok_or(Refusal::at(18, 0))?;
+    let (orders, places) = judged.ok_or(Refusal::at(18, 0))?;
     if k >= orders as u64 {
         return Err(Refusal::at(19, orders as usize));
     }
     let reductions = &mut reductions[..groups];
     let size = choose_all(record, k as u32, reductions);
     let out = out.get_mut(..size).ok_or(Refusal::at(17, size))?;
+    if places > slots {
+        return Err(Refusal::at(17, places));
+    }
     write(record, reductions, out);
     Ok(size)
 }

@@ -15,12 +15,33 @@ const SHORT: usize = 128;
 /// Reads one command with the default bases of its places. On success the record stands at the
 /// buffer's start; gives its length.
 pub fn read(text: &[u8], bases: &[u8], out: &mut [u8]) -> Result<usize, Refusal> {
+    read_sized(text, bases, out, None)
+}
+
+/// Reads one command as [`read`] does, and fills a row with the offsets of its places in the
+/// record; slots beyond the places keep their numbers.
+pub fn read_row(
+    text: &[u8],
+    bases: &[u8],
+    out: &mut [u8],
+    row: &mut [u32],
+) -> Result<usize, Refusal> {
+    read_sized(text, bases, out, Some(row))
+}
+
+/// Reads one command with a table that suits its length, and fills a row if there is one.
+fn read_sized(
+    text: &[u8],
+    bases: &[u8],
+    out: &mut [u8],
+    row: Option<&mut [u32]>,
+) -> Result<usize, Refusal> {
     judge_bases(bases)?;
     judge_bytes(text)?;
     if text.len() <= SHORT {
-        read_with::<SHORT>(text, bases, out)
+        read_with::<SHORT>(text, bases, out, row)
     } else {
-        read_with::<{ limits::TEXT }>(text, bases, out)
+        read_with::<{ limits::TEXT }>(text, bases, out, row)
     }
 }
 
@@ -50,7 +71,12 @@ fn judge_bytes(text: &[u8]) -> Result<(), Refusal> {
     Err(Refusal::at(3, first.unwrap_or(text.len())))
 }
 
-fn read_with<const N: usize>(text: &[u8], bases: &[u8], out: &mut [u8]) -> Result<usize, Refusal> {
+fn read_with<const N: usize>(
+    text: &[u8],
+    bases: &[u8],
+    out: &mut [u8],
+    row: Option<&mut [u32]>,
+) -> Result<usize, Refusal> {
     let mut table = [Token::NONE; N];
     let mut contents = [0; N];
     contents[..text.len()].copy_from_slice(text);
@@ -70,7 +96,12 @@ fn read_with<const N: usize>(text: &[u8], bases: &[u8], out: &mut [u8]) -> Resul
     reader.command()?;
     let size = reader.size;
     let out = out.get_mut(..size).ok_or(Refusal::at(17, size))?;
-    reader.write(&mut Writer::new(out));
+    let places = reader.places;
+    let row = match row {
+        None => None,
+        Some(row) => Some(row.get_mut(..places).ok_or(Refusal::at(17, places))?),
+    };
+    reader.write(&mut Writer::new(out), row);
     Ok(size)
 }
 
@@ -263,8 +294,8 @@ impl Reader<'_> {
         }
     }
 
-    /// Writes the record of a command that is judged.
-    fn write(&self, writer: &mut Writer) {
+    /// Writes the record of a command that is judged, and into a row where each place begins.
+    fn write(&self, writer: &mut Writer, mut row: Option<&mut [u32]>) {
         writer.count(self.orders);
         let mut at = self.write_pieces(fields::CODE_PIECE, 0, writer);
         let mut places = 0;
@@ -273,6 +304,9 @@ impl Reader<'_> {
             writer.letter(fields::BLOCK, if named { b'N' } else { b'P' });
             loop {
                 let end = self.tokens[at].start as usize;
+                if let Some(row) = &mut row {
+                    row[places] = writer.offset() as u32;
+                }
                 writer.letter(fields::PLACE, base_of_place(self.bases, places).letter);
                 self.write_place(at + 1, end, named, writer);
                 places += 1;

@@ -23,11 +23,17 @@ pub struct Group {
 /// last.
 #[inline(always)]
 pub fn judge(record: &[u8], group: impl FnMut(Group)) -> Option<u32> {
+    judge_places(record, group).map(|(orders, _)| orders)
+}
+
+/// Judges a record as [`judge`] does, and gives the number of its places too.
+#[inline(always)]
+pub fn judge_places(record: &[u8], group: impl FnMut(Group)) -> Option<(u32, usize)> {
     let (count, fields) = fields::counted(record)?;
     let mut judge = Judge::of(record, fields, group);
     judge.command()?;
     holds(judge.orders == count)?;
-    Some(count)
+    Some((count, judge.places))
 }
 
 /// Whether these bytes are the fields of 1 to 4 units that could stand under this base, and

@@ -26,6 +26,12 @@ impl<'o> Writer<'o> {
         Writer { out, at: 0 }
     }
 
+    /// Where the next byte goes, counted from the buffer's start.
+    #[inline]
+    pub fn offset(&self) -> usize {
+        self.at
+    }
+
     #[inline(always)]
     fn bytes<const N: usize>(&mut self, bytes: [u8; N]) {
         self.out[self.at..][..N].copy_from_slice(&bytes);

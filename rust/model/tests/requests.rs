@@ -1254,6 +1254,386 @@ mod is_this_amplifier_in_it {
     }
 }
 
+/// M-108.
+mod an_index_of_places {
+    use super::*;
+
+    /// Commands with places of all kinds.
+    const COMMANDS: &[(&str, &str)] = &[
+        ("A;", ""),
+        ("A:;", ""),
+        ("SET-ATT-X:;", "K"),
+        ("A:,,5,;", ""),
+        ("A:5&&9++2&10;", ""),
+        ("SET-ATT:LIN=7-1&&-3,LEV=3.5;", "DD"),
+        ("A:N-1-B-2=UP;", "H"),
+        (
+            "A:,1:N=2,M=3::\"a \"\"b\"\"\",,*21#:X=1-2-3-4&&-6;",
+            "DHOOKKKKD",
+        ),
+        ("A::::::::;", "DHOBK"),
+        ("A:::::::,,,,,,,,,,,,,,,,,,,,,,,,,;", ""),
+        ("A:1&&3,,N&\"\"&7.25:P=3&4,Q=1-2&-4,R=X:,;", ""),
+    ];
+
+    /// The record of a command that must be accepted, and its row.
+    #[track_caller]
+    fn rowed(text: &str, bases: &str) -> (Vec<u8>, Vec<u32>) {
+        match read_row(text, bases) {
+            Ok(rowed) => rowed,
+            Err(refusal) => panic!("{text} with {bases}: refused {refusal:?}"),
+        }
+    }
+
+    /// Where the fields of tag 3 begin, counted along all fields from the first byte on.
+    fn offsets(record: &[u8]) -> Vec<u32> {
+        let mut at = 0;
+        let mut offsets = Vec::new();
+        for (tag, content) in fields(record) {
+            if tag == 3 {
+                offsets.push(at);
+            }
+            at += 3 + content.len() as u32;
+        }
+        offsets
+    }
+
+    /// The fields of all places by this row.
+    #[track_caller]
+    fn pages<'r>(record: &'r [u8], row: &[u32]) -> Vec<&'r [u8]> {
+        let page = |number| place(record, row, number).unwrap();
+        (0..bases_of(record).len() as u32).map(page).collect()
+    }
+
+    /// A place's own field, of this base.
+    fn begin(base: u8) -> Vec<u8> {
+        field(3, &[base])
+    }
+
+    /// The record of the paper's command, place by place.
+    #[test]
+    fn each_place_hands_back_its_fields() {
+        let (record, row) = rowed("SET-ATT:LIN=7-1&&-3,LEV=3.5;", "DD");
+        assert_eq!(row, [23, 62]);
+        let seven = numeral(b'D', 0, 7);
+        let line = [
+            begin(b'D'),
+            field(4, b"LIN"),
+            range(3, 1),
+            seven,
+            numeral(b'D', 0, 1),
+        ];
+        let level = [
+            begin(b'D'),
+            field(4, b"LEV"),
+            single(),
+            numeral(b'D', 1, 35),
+        ];
+        assert_eq!(pages(&record, &row), [line.concat(), level.concat()]);
+    }
+
+    #[test]
+    fn an_offset_counts_the_seven_bytes_and_points_at_tag_3() {
+        let (record, row) = rowed("A:5,6;", "HO");
+        assert_eq!(row, [15, 31]);
+        assert_eq!(record[15..19], [3, 0, 1, b'H']);
+        assert_eq!(record[31..35], [3, 0, 1, b'O']);
+        for &(text, bases) in COMMANDS {
+            let (record, row) = rowed(text, bases);
+            assert_eq!(row, offsets(&record), "{text}");
+        }
+    }
+
+    /// "one for each place", through all blocks
+    #[test]
+    fn the_places_and_what_is_between_are_the_record() {
+        for &(text, bases) in COMMANDS {
+            let (record, row) = rowed(text, bases);
+            let mut behind = row
+                .first()
+                .map_or(record.len(), |&first| first as usize - 4);
+            for (page, &offset) in pages(&record, &row).iter().zip(&row) {
+                let between = &record[behind..offset as usize];
+                assert!(matches!(between, [] | [2, 0, 1, b'P' | b'N']), "{text}");
+                let tags: Vec<u8> = fields(page).iter().map(|field| field.0).collect();
+                assert_eq!(tags[0], 3, "{text}");
+                assert!(tags[1..].iter().all(|&tag| tag > 3), "{text}");
+                behind = offset as usize + page.len();
+            }
+            assert_eq!(behind, record.len(), "{text}");
+        }
+    }
+
+    #[test]
+    fn an_omitted_place_hands_back_what_fields_it_has() {
+        let (record, row) = rowed("A:,5,:;", "KHO");
+        assert_eq!(row, [15, 19, 35, 43]);
+        let five = [begin(b'H'), single(), numeral(b'H', 0, 5)].concat();
+        let omitted = [b'K', b'H', b'O', b'D'].map(begin);
+        let [first, _, third, fourth] = &omitted;
+        assert_eq!(pages(&record, &row), [first, &five, third, fourth]);
+        for page in [0, 2, 3] {
+            assert_eq!(place(&record, &row, page).unwrap().len(), 4);
+        }
+    }
+
+    #[test]
+    fn names_of_several_pieces_are_part_of_the_place() {
+        let (record, row) = rowed("A:N-1-B-2=UP;", "H");
+        let name = [b"N", b"1", b"B", b"2"].map(|piece| field(4, piece));
+        let page = [begin(b'H'), name.concat(), single(), field(9, b"UP")];
+        assert_eq!(pages(&record, &row), [page.concat()]);
+    }
+
+    /// Bytes 2 and 3 begin no field where they stand in a content.
+    #[test]
+    fn contents_that_look_like_tags() {
+        let (record, row) = rowed("A:771&&772,50529027&33751042:\"\t\";", "");
+        assert_eq!(row, offsets(&record));
+        let pages = pages(&record, &row);
+        assert_eq!(pages[0][18..], [b'D', 0, 0, 0, 3, 3]);
+        assert_eq!(pages[1].len(), 28);
+        assert_eq!(pages[1][12..16], [3, 3, 3, 3]);
+    }
+
+    #[test]
+    fn thirty_two_places_in_one_block_and_in_eight() {
+        for colons in 1..=8 {
+            let text = format!("A{}{};", ":".repeat(colons), ",".repeat(32 - colons));
+            let (record, row) = rowed(&text, "");
+            assert_eq!(row.len(), 32);
+            assert_eq!(row[31] as usize, record.len() - 4);
+            assert_eq!(place(&record, &row, 31), Ok(&begin(b'D')[..]));
+            assert_eq!(place(&record, &row, 32), Err((26, 32)));
+            let mut short = vec![7; 31];
+            let mut out = vec![9; record.len()];
+            let answer = model::read_row(text.as_bytes(), b"", &mut out, &mut short);
+            assert_eq!(answer.map_err(|r| (r.number, r.place)), Err((17, 32)));
+            assert_eq!((short, out), (vec![7; 31], vec![9; record.len()]));
+        }
+        refused(&format!("A:{};", ",".repeat(32)), "", 15, 34);
+        let thirty_three = read_row(&format!("A:{};", ",".repeat(32)), "");
+        assert_eq!(thirty_three, Err((15, 34)));
+    }
+
+    #[test]
+    fn slots_beyond_the_places_keep_their_numbers() {
+        let mut out = [0; 100];
+        let mut row = [1, 2, 3, 4];
+        let length = model::read_row(b"A:5,6;", b"", &mut out, &mut row).unwrap();
+        assert_eq!(row, [15, 31, 3, 4]);
+        let mut again = [0; 100];
+        let mut row = [u32::MAX; 4];
+        let order = model::order_row(&out[..length], 0, &mut again, &mut row);
+        assert_eq!(order, Ok(length));
+        assert_eq!(row, [15, 31, u32::MAX, u32::MAX]);
+        let mut row = [5];
+        assert!(model::read_row(b"A;", b"", &mut out, &mut row).is_ok());
+        assert_eq!(row, [5]);
+    }
+
+    #[test]
+    fn the_order_writer_fills_the_row_of_its_order() {
+        let record = record("A:1&&3,,N&\"\"&7.25:P=3&4,Q=1-2&-4,R=X:,;", "");
+        let whole = offsets(&record);
+        let (order, row) = order_row(&record, 0).unwrap();
+        assert_eq!(row, offsets(&order));
+        assert_eq!(row, [15, 31, 35, 50, 70, 99, 118, 122]);
+        assert!(row
+            .iter()
+            .zip(&whole)
+            .skip(1)
+            .all(|(one, other)| one < other));
+        for k in 0..u64::from(count(&record).unwrap()) {
+            let (order, row) = order_row(&record, k).unwrap();
+            assert_eq!(row, offsets(&order), "{k}");
+        }
+    }
+
+    /// The pages of every order: what is no group's stays, of a group there is one argument.
+    #[test]
+    fn the_pages_of_an_order() {
+        let record = record("A:5,X&7&&8,N;", "");
+        let numerals = [numeral(b'D', 0, 7), numeral(b'D', 0, 8)];
+        let chosen = [field(9, b"X"), numerals[0].clone(), numerals[1].clone()];
+        for (k, unit) in chosen.iter().enumerate() {
+            let (order, row) = order_row(&record, k as u64).unwrap();
+            let page = |unit: &[u8]| [&begin(b'D')[..], &single(), unit].concat();
+            let five = page(&numeral(b'D', 0, 5));
+            let expected = [five, page(unit), page(&field(9, b"N"))];
+            assert_eq!(pages(&order, &row), expected);
+        }
+    }
+
+    #[test]
+    fn an_order_of_an_order_has_the_same_row() {
+        let record = record("SET-ATT:LIN=7-1&&-3,LEV=3.5;", "DD");
+        let (order, row) = order_row(&record, 2).unwrap();
+        assert_eq!(row, [23, 54]);
+        assert_eq!(order_row(&order, 0), Ok((order, row)));
+    }
+
+    #[test]
+    fn eighteen_and_19_go_before_both_17s() {
+        let record = record("A:5&&9,6;", "");
+        assert_eq!(order_row(&record, 5), Err((19, 5)));
+        assert_eq!(order_row(&record, u64::MAX), Err((19, 5)));
+        not_well_formed(&record[7..]);
+        not_well_formed(&record[..record.len() - 1]);
+    }
+
+    /// Every refusal of the reader goes before the row's 17, and leaves buffer and row.
+    #[test]
+    fn the_readers_refusals_go_before_the_rows_17() {
+        for (text, bases, refusal) in [
+            ("A:5;", "X", (1, 0)),
+            ("A:\u{1};", "", (3, 2)),
+            ("A:\"x;", "", (4, 2)),
+            ("A:/;", "", (5, 2)),
+            ("A:5", "", (6, 3)),
+            ("A:5;6", "", (7, 4)),
+            ("1:5;", "", (8, 0)),
+            ("A:B=3,5;", "", (9, 6)),
+            ("A:=1;", "", (10, 2)),
+            ("A:N=1,N=1;", "", (21, 6)),
+            ("A:1&;", "", (11, 4)),
+            ("A:1.;", "", (12, 2)),
+            ("A:4294967296;", "", (13, 2)),
+            ("A:9&&5;", "", (14, 5)),
+            ("A:::::::::;", "", (15, 9)),
+            ("A:0&&4096;", "", (16, 2)),
+        ] {
+            assert_eq!(read_row(text, bases), Err(refusal), "{text}");
+        }
+    }
+
+    /// The place of 17 is the bytes needed where both are too short, else the slots needed.
+    #[test]
+    fn the_rows_17_comes_behind_the_records_own() {
+        let text = b"A:5,6,7;";
+        let read = |room: usize, slots: usize| {
+            let (mut out, mut row) = (vec![1; room], vec![2; slots]);
+            let answer = model::read_row(text, b"", &mut out, &mut row);
+            let refusal = answer.map_err(|refusal| (refusal.number, refusal.place));
+            let untouched = out == vec![1; room] && row == vec![2; slots];
+            (refusal, untouched)
+        };
+        assert_eq!(read(62, 2), (Err((17, 63)), true));
+        assert_eq!(read(62, 3), (Err((17, 63)), true));
+        assert_eq!(read(0, 0), (Err((17, 63)), true));
+        assert_eq!(read(63, 2), (Err((17, 3)), true));
+        assert_eq!(read(1000, 0), (Err((17, 3)), true));
+        assert_eq!(read(63, 3), (Ok(63), false));
+    }
+
+    #[test]
+    fn a_row_that_is_shorter_than_the_places() {
+        let (record, row) = rowed("A:5,6:,N;", "");
+        for slots in 0..4 {
+            let missing = Err((28, slots as u32));
+            for asked in [0, 1, 3, 4, u32::MAX] {
+                assert_eq!(place(&record, &row[..slots], asked), missing);
+            }
+        }
+        assert!(place(&record, &row, 0).is_ok());
+    }
+
+    #[test]
+    fn a_slot_that_differs() {
+        let (record, row) = rowed("A:5,6:,N;", "");
+        for at in 0..4 {
+            for other in [0, row[at] + 1, row[at] - 1, row[at] + 256, u32::MAX] {
+                let mut wrong = row.clone();
+                wrong[at] = other;
+                for asked in [0, 1, 2, 3, 4, u32::MAX] {
+                    assert_eq!(place(&record, &wrong, asked), Err((28, at as u32)));
+                }
+            }
+        }
+        let mut swapped = row.clone();
+        swapped.swap(1, 2);
+        assert_eq!(place(&record, &swapped, 0), Err((28, 1)));
+        let behind_the_head: Vec<u32> = row.iter().map(|offset| offset - 7).collect();
+        assert_eq!(place(&record, &behind_the_head, 3), Err((28, 0)));
+    }
+
+    #[test]
+    fn the_first_such_slot() {
+        let (record, row) = rowed("A:5,6:,N;", "");
+        for first in 0..4 {
+            for second in first + 1..4 {
+                let mut wrong = row.clone();
+                wrong[first] ^= 1;
+                wrong[second] ^= 1;
+                let refusal = Err((28, first as u32));
+                assert_eq!(place(&record, &wrong, second as u32), refusal);
+                assert_eq!(place(&record, &wrong[..second], 4), refusal);
+            }
+        }
+    }
+
+    #[test]
+    fn slots_behind_the_places_are_not_looked_at() {
+        for &(text, bases) in COMMANDS {
+            let (record, row) = rowed(text, bases);
+            let pages = pages(&record, &row);
+            for more in [vec![0], vec![u32::MAX; 40], row.clone()] {
+                let long = [row.clone(), more].concat();
+                assert_eq!(self::pages(&record, &long), pages, "{text}");
+                let past = row.len() as u32;
+                assert_eq!(place(&record, &long, past), Err((26, past)), "{text}");
+            }
+        }
+    }
+
+    #[test]
+    fn no_such_place() {
+        for &(text, bases) in COMMANDS {
+            let (record, row) = rowed(text, bases);
+            let past = row.len() as u32;
+            for asked in [past, past + 1, 33, 256, 1 << 16, 1 << 31, u32::MAX] {
+                assert_eq!(place(&record, &row, asked), Err((26, asked)), "{text}");
+            }
+        }
+    }
+
+    #[test]
+    fn a_record_without_places_has_an_empty_row() {
+        let (record, row) = rowed("SET-ATT;", "");
+        assert!(row.is_empty());
+        assert_eq!(place(&record, &[], 0), Err((26, 0)));
+        assert_eq!(place(&record, &[1, 2], 1), Err((26, 1)));
+        assert_eq!(order_row(&record, 0), Ok((record, row)));
+    }
+
+    #[test]
+    fn eighteen_goes_before_28_and_26() {
+        let (mut record, row) = rowed("A:5&&8,;", "");
+        for at in 0..record.len() {
+            record[at] ^= 0x80;
+            not_well_formed(&record);
+            for asked in [0, 1, 2] {
+                assert_eq!(place(&record, &row, asked), Err((18, 0)));
+                assert_eq!(place(&record, &[9], asked), Err((18, 0)));
+            }
+            record[at] ^= 0x80;
+        }
+        assert!(place(&record, &row, 1).is_ok());
+    }
+
+    /// The row of one record is not that of another, though a slot may be alike.
+    #[test]
+    fn the_row_of_another_record() {
+        let (record, row) = rowed("SET-ATT:LIN=7-1&&-3,LEV=3.5;", "DD");
+        let (order, shorter) = order_row(&record, 0).unwrap();
+        assert_eq!(place(&record, &shorter, 0), Err((28, 1)));
+        assert_eq!(place(&order, &row, 0), Err((28, 1)));
+        let (wider, other) = rowed("SET-ATT-X:LIN=7-1&&-3,LEV=3.5;", "DD");
+        assert_eq!(place(&wider, &row, 1), Err((28, 0)));
+        assert!(place(&wider, &other, 1).is_ok());
+    }
+}
+
 /// M-109.
 mod terminals_without_shift_lock {
     use super::*;

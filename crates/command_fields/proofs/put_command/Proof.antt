@@ -1,10 +1,13 @@
--- `put_command` meets its contract: the head is written, then the rule's command behind it, which is the tokens before the first `;`.
+-- `put_command` meets its contract: the head is written, then the rule's command behind it, which is the tokens before the `;`; of a command that is read that is the last token.
 use borrow.Author.Needs.{needs}
 use native.Mathlib.Omega.{arith}
 use Rattle.token_table.proofs.FindLaws.{taken}
-use Rattle.command_fields.proofs.BlockLaws.{command-inside, command-segments, command-put}
+use Rattle.command_fields.proofs.BlockLaws.{command-some, command-inside, command-segments, command-put}
 use Rattle.command_fields.proofs.put_command.Statement.{statement}
 use Rattle.command_fields.proofs.put_command.Tie as tie
+
+sub-end : tie.Need-sub-end
+sub-end c = search (needs, command-some)
 
 slice-aggregate-put-segments : tie.Need-slice-aggregate-put-segments
 slice-aggregate-put-segments c = search (needs, taken, command-inside)
@@ -22,7 +25,7 @@ pub put-command-spec : {M : Type 1} → statement M
 put-command-spec =
     tie.close
     (tie.spec
-    (λ c κs. search needs)
+    sub-end
     (λ c κs. search needs)
     (λ c. search needs)
     (λ c. search needs)

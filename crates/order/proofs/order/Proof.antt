@@ -1,42 +1,29 @@
--- `order` meets its contract: the judge's answer gives the command and its row; made the plan of order k, the reduced record is order k's.
+-- `order` meets its contract: made the plan of order k, the reduced record is order k's, and an order has no more places than there can be.
 use borrow.Author.Needs.{needs}
-use Rattle.judge.proofs.ToldLaws.{judged-row, judged-count, judged-cut, head-room, judged-told}
-use Rattle.order.proofs.AnswerLaws.{order-bad, order-past, front-inside, front-cut, front-planned, order-at}
+use Rattle.order.proofs.AnswerLaws.{order-refused, head-inside, plan-inside, plan-cut, plan-few, plan-planned, order-at}
 use Rattle.order.proofs.order.Statement.{statement}
 use Rattle.order.proofs.order.Tie as tie
 
-returns : tie.Need-returns
-returns c = search (needs, order-bad)
+sub-put-order : tie.Need-sub-put-order
+sub-put-order c = search (needs, head-inside)
 
-returns-2 : tie.Need-returns-2
-returns-2 c = search (needs, order-past)
-
-mul-told : tie.Need-mul-told
-mul-told c = search (needs, judged-count)
-
-sub-body : tie.Need-sub-body
-sub-body c = search (needs, head-room)
-
-array-borrow-prefix-row : tie.Need-array-borrow-prefix-row
-array-borrow-prefix-row c = search (needs, judged-row)
-
-slice-aggregate-positions : tie.Need-slice-aggregate-positions
-slice-aggregate-positions c = search (needs, judged-cut)
-
-positions-requires : tie.Need-positions-requires
-positions-requires c κs = search (needs, judged-told)
+part-put-order-start : tie.Need-part-put-order-start
+part-put-order-start c = search (needs, head-inside)
 
 array-share-prefix-row : tie.Need-array-share-prefix-row
-array-share-prefix-row c = search (needs, front-inside)
+array-share-prefix-row c = search (needs, plan-inside)
 
 slice-aggregate-put-order : tie.Need-slice-aggregate-put-order
-slice-aggregate-put-order c = search (needs, front-cut)
+slice-aggregate-put-order c = search (needs, plan-cut)
 
 put-order-requires : tie.Need-put-order-requires
-put-order-requires c κs = search (needs, front-planned)
+put-order-requires c κs = search (needs, plan-planned, plan-few)
 
-returns-3 : tie.Need-returns-3
-returns-3 c = search (needs, order-at)
+returns : tie.Need-returns
+returns c = search (needs, order-refused)
+
+returns-2 : tie.Need-returns-2
+returns-2 c = search (needs, order-at)
 
 pub order-spec : {M : Type 1} → statement M
 order-spec =
@@ -46,19 +33,12 @@ order-spec =
     (λ c κs. search needs)
     (λ c. search needs)
     (λ c. search needs)
-    returns
+    sub-put-order
+    part-put-order-start
     (λ c. search needs)
-    returns-2
-    mul-told
-    sub-body
-    sub-body
-    (λ c. search needs)
-    array-borrow-prefix-row
-    slice-aggregate-positions
-    (λ c. search needs)
-    positions-requires
     array-share-prefix-row
     slice-aggregate-put-order
     put-order-requires
+    returns
     (λ c. search needs)
-    returns-3)
+    returns-2)

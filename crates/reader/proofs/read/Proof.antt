@@ -1,23 +1,11 @@
--- `read` meets its contract: the rules read the letters of the bases first, and then the text.
+-- `read` meets its contract: no command that is read has more places than there can be.
 use borrow.Author.Needs.{needs}
-use Rattle.reader.proofs.ReadLaws.{read-refused, read-text}
+use Rattle.reader.proofs.ReadLaws.{read-plain}
 use Rattle.reader.proofs.read.Statement.{statement}
 use Rattle.reader.proofs.read.Tie as tie
 
 returns : tie.Need-returns
-returns c = search (needs, read-refused)
-
-returns-2 : tie.Need-returns-2
-returns-2 c = search (needs, read-text)
+returns c = search (needs, read-plain)
 
 pub read-spec : {M : Type 1} → statement M
-read-spec =
-    tie.close
-    (tie.spec
-    (λ c κs. search needs)
-    (λ c. search needs)
-    (λ c. search needs)
-    (λ c κs. search needs)
-    returns
-    (λ c. search needs)
-    returns-2)
+read-spec = tie.close (tie.spec (λ c κs. search needs) (λ c. search needs) returns)

@@ -7,8 +7,8 @@ use Rattle.reader.proofs.ReadLaws.{text-long}
 use Rattle.reader.proofs.read_text.Statement.{statement}
 use Rattle.reader.proofs.read_text.Tie as tie
 
-cast-t7 : tie.Need-cast-t7
-cast-t7 c = omega arith
+cast-t8 : tie.Need-cast-t8
+cast-t8 c = omega arith
 
 returns : tie.Need-returns
 returns c = search (needs, text-long)
@@ -29,7 +29,7 @@ pub read-text-spec : {M : Type 1} → statement M
 read-text-spec =
     tie.close
     (tie.spec
-    cast-t7
+    cast-t8
     returns
     read-short-requires
     (λ c. search needs)

@@ -145,6 +145,90 @@ pub fn member(record: &[u8], place: u32, argument: &[u8]) -> Result<Option<u32>,
     answer.map_err(|refusal| (refusal.number, refusal.place))
 }
 
+/// A record and the row of its offsets, or the refusal.
+pub type Rowed = Result<(Vec<u8>, Vec<u32>), (u8, u32)>;
+
+/// The number that a slot is soiled with before a call.
+pub const fn soil(slot: usize) -> u32 {
+    0xA5A5_0000 + slot as u32
+}
+
+/// Runs a call that fills a row, with a buffer of this size and so many slots, and gives record and
+/// offsets. A refused call must write nothing, a call that succeeds nothing past its answer, and no
+/// slot beyond the places.
+fn watched_row(
+    size: usize,
+    slots: usize,
+    call: impl FnOnce(&mut [u8], &mut [u32]) -> Result<usize, Refusal>,
+) -> Rowed {
+    let soiled: Vec<u32> = (0..slots).map(soil).collect();
+    let mut row = soiled.clone();
+    let answer = watched(size, |out| call(out, &mut row));
+    let filled = answer.as_ref().map_or(0, |record| bases_of(record).len());
+    assert_eq!(row[filled..], soiled[filled..]);
+    row.truncate(filled);
+    answer.map(|record| (record, row))
+}
+
+/// Like [`watched_row`], and tries the sizes and the rows that just fit and just do not.
+fn watched_rows(call: impl Fn(&mut [u8], &mut [u32]) -> Result<usize, Refusal>) -> Rowed {
+    let mut room = ROOM;
+    let mut answer = watched_row(room, 40, &call);
+    if let Err((17, needed)) = answer {
+        room = needed as usize + 1;
+        answer = watched_row(room, 40, &call);
+    }
+    let Ok((record, row)) = &answer else {
+        assert_eq!(watched_row(0, 0, &call), answer);
+        return answer;
+    };
+    let (bytes, places) = (record.len(), row.len());
+    assert_eq!(watched_row(bytes, places, &call), answer);
+    for slots in 0..places {
+        let too_short = Err((17, places as u32));
+        assert_eq!(watched_row(bytes, slots, &call), too_short);
+        assert_eq!(watched_row(room, slots, &call), too_short);
+    }
+    for slots in [0, places, places + 1] {
+        let too_short = Err((17, bytes as u32));
+        assert_eq!(watched_row(bytes - 1, slots, &call), too_short);
+        assert_eq!(watched_row(0, slots, &call), too_short);
+    }
+    answer
+}
+
+/// The record of a command and the row of its offsets, or the refusal: as [`read`] answers.
+#[track_caller]
+pub fn read_row(text: &str, bases: &str) -> Rowed {
+    let (bytes, letters) = (text.as_bytes(), bases.as_bytes());
+    let answer = watched_rows(|out, row| model::read_row(bytes, letters, out, row));
+    let alone = answer.clone().map(|(record, _)| record);
+    assert_eq!(alone, read(text, bases), "{text}");
+    answer
+}
+
+/// Order `k` of a record and the row of its offsets, or the refusal: as [`order`] answers.
+#[track_caller]
+pub fn order_row(record: &[u8], k: u64) -> Rowed {
+    let answer = watched_rows(|out, row| model::order_row(record, k, out, row));
+    let alone = answer.clone().map(|(order, _)| order);
+    assert_eq!(alone, order(record, k), "{record:?}");
+    answer
+}
+
+/// The fields of a place by a row, or the refusal. They must be a part of the record itself, and
+/// begin where the slot says.
+#[track_caller]
+pub fn place<'r>(record: &'r [u8], row: &[u32], place: u32) -> Result<&'r [u8], (u8, u32)> {
+    let answer = model::place(record, row, place);
+    if let Ok(fields) = answer {
+        let offset = fields.as_ptr() as usize - record.as_ptr() as usize;
+        assert_eq!(row[place as usize], offset as u32);
+        assert!(offset + fields.len() <= record.len());
+    }
+    answer.map_err(|refusal| (refusal.number, refusal.place))
+}
+
 /// The unit fields of an argument as it is typed in a place of this base.
 #[track_caller]
 pub fn argument(text: &str, base: &str) -> Vec<u8> {
@@ -166,8 +250,10 @@ pub fn not_well_formed(record: &[u8]) {
     assert_eq!(count(record), Err((18, 0)), "{record:?}");
     assert_eq!(order(record, 0), Err((18, 0)), "{record:?}");
     assert_eq!(list(record), Err((18, 0)), "{record:?}");
-    for place in [0, u32::MAX] {
-        assert_eq!(member(record, place, b""), Err((18, 0)), "{record:?}");
+    assert_eq!(order_row(record, 0), Err((18, 0)), "{record:?}");
+    for number in [0, u32::MAX] {
+        assert_eq!(member(record, number, b""), Err((18, 0)), "{record:?}");
+        assert_eq!(place(record, &[], number), Err((18, 0)), "{record:?}");
     }
 }
 

@@ -1,0 +1,17 @@
+-- `place_end` meets its contract: behind a place's own field stand its name and its value, and nothing more of their tags.
+use borrow.Author.Needs.{needs}
+use Rattle.index.proofs.RowLaws.{stands-whole, stands-fits, ends-at}
+use Rattle.index.proofs.place_end.Statement.{statement}
+use Rattle.index.proofs.place_end.Tie as tie
+
+add-run-end : tie.Need-add-run-end
+add-run-end c = search (needs, stands-fits)
+
+run-end-requires : tie.Need-run-end-requires
+run-end-requires c κs = search (needs, stands-whole)
+
+returns : tie.Need-returns
+returns c = search (needs, ends-at)
+
+pub place-end-spec : {M : Type 1} → statement M
+place-end-spec = tie.close (tie.spec add-run-end run-end-requires returns)
