@@ -320,7 +320,7 @@ LocateRefused =
 -- ======== M-108: an index of places
 
 -- "a lent row of 32-bit offsets, one for each place": as many as there are places. The slot of a place's number is how many bytes of the record stand before the place: 7 of the head, the code and the
--- blocks before, 4 of the block's own field, and the places before it; and there the record has the place's fields
+-- blocks before, 4 of the block's own field, and the places before it; and there the record has the place's fields, with a place, a block or nothing behind them
 abbrev pub RowPoints : Type 0
 RowPoints =
     ((code : List (List ℕ)) (bs : List Block) → length (offsets (command code bs)) ≡ length (allPlaces bs))
