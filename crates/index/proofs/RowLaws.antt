@@ -7,6 +7,7 @@ use native.Mathlib.Omega.{arith}
 use borrow.Author.Tests.{eq-eqb, ne-eqb, lt-ltb, le-ltb, ltb-true, ltb-false, leb-true, le-leb}
 use lib.Dec.{eqb, ltb, leb}
 use lib.ListN.{length, getD, drop, set, length-append, length-drop, length-set, drop-of-length-le}
+use lib.Seq.{drop-at}
 use Rattle.laws.specs.Cases.{byBool, and-l, and-r}
 use Rattle.laws.specs.Lists.{all, all-append, all-mono, next}
 use Rattle.laws.specs.Over.{over, over-byte}
@@ -20,12 +21,12 @@ use Rattle.rules.proofs.EncodeDecode.{IsRecord, record-is}
 use Rattle.rules.proofs.FieldLaws.{bytes-append}
 use Rattle.rules.proofs.RecordBound.{record-bound}
 use Rattle.rules.proofs.ResultLaws.{ok-inj}
-use Rattle.rules.proofs.RowPoints.{offsets-most}
+use Rattle.rules.proofs.RowPoints.{StandsAt, offsets-most}
 use Rattle.record_walk.specs.Fronts.{tagOf}
 use Rattle.record_walk.specs.Runs.{Whole, fieldSize, tagIn, RunsTo}
-use Rattle.record_walk.proofs.RunLaws.{drop-behind, stands-inside, after-field, behind-field, after-on, element-tags}
+use Rattle.record_walk.proofs.RunLaws.{drop-behind, stands-inside, after-field, behind-field, after-on, element-tags, low-tag}
 use Rattle.record_walk.proofs.WalkLaws.{tag-there}
-use Rattle.index.specs.Rows.{WellFormed, Indexable, Fills, isRight, Agrees, PlaceThere, StandsAt, EndsAt}
+use Rattle.index.specs.Rows.{WellFormed, Indexable, Fills, isRight, Agrees, HasPlace, EndsAt}
 
 -- ---- the walk
 
@@ -302,27 +303,35 @@ inner-tags (place b nm v) =
     all-append (tagIn nameTag stringTag) (map (λ w. field nameTag w) nm) (many elementFields v) (names-in nm)
     (all-mono (tagIn singleTag stringTag) (tagIn nameTag stringTag) (λ f. wide singleTag f (omega arith)) (many elementFields v) (element-tags v))
 
-module _ {rec : List ℕ} {at : ℕ} (p : Place) (t : PlaceThere rec at p) where
-  behind-own : drop (at + 4) rec ≡ bytesOf (inner p) ++ bytesOf (t .rest)
-  behind-own =
-      ap (λ (n : ℕ). drop (at + n) rec) (sym (own-long p))
-      ∙ drop-behind rec at (ownBytes p) (bytesOf (inner p) ++ bytesOf (t .rest)) (own-first rec at p (bytesOf (t .rest)) (t .stands))
+module _ {rec : List ℕ} {at : ℕ} (p : Place) (t : StandsAt p rec at) where
+  abbrev rest : List ℕ
+  rest = bytesOf (t .behind)
+
+  stands : drop at rec ≡ ownBytes p ++ (bytesOf (inner p) ++ rest)
+  stands =
+      own-first rec at p rest
+      (ap (drop at) (t .is) ∙ drop-at (t .before) (bytesOf (placeFields p) ++ rest) at (t .size))
+
+  inside : at ≤ length rec
+  inside = omega (arith, ap length (t .is), length-append (t .before) (bytesOf (placeFields p) ++ rest), t .size)
+
+  behind-own : drop (at + 4) rec ≡ bytesOf (inner p) ++ rest
+  behind-own = ap (λ (n : ℕ). drop (at + n) rec) (sym (own-long p)) ∙ drop-behind rec at (ownBytes p) (bytesOf (inner p) ++ rest) stands
 
   whole-behind : Whole rec (at + 4)
   whole-behind = record {
-    fs = inner p ++ t .rest;
-    is = behind-own ∙ sym (bytes-append (inner p) (t .rest));
-    inside =
-        omega
-        (arith, own-long p, stands-inside rec at (ownBytes p) (bytesOf (inner p) ++ bytesOf (t .rest)) (own-first rec at p (bytesOf (t .rest)) (t .stands)) (t .inside));
+    fs = inner p ++ t .behind;
+    is = behind-own ∙ sym (bytes-append (inner p) (t .behind));
+    inside = omega (arith, own-long p, stands-inside rec at (ownBytes p) (bytesOf (inner p) ++ rest) stands inside);
   }
 
-pub stands-whole : {rec : List ℕ} {at : ℕ} → StandsAt rec at → Whole rec (at + 4)
+pub stands-whole : {rec : List ℕ} {at : ℕ} → HasPlace rec at → Whole rec (at + 4)
 stands-whole s = whole-behind (s .p) (s .there)
 
-pub stands-fits : {rec : List ℕ} {at : ℕ} → StandsAt rec at → at + 4 ≤ length rec
+pub stands-fits : {rec : List ℕ} {at : ℕ} → HasPlace rec at → at + 4 ≤ length rec
 stands-fits s = stands-whole s .inside
 
 pub ends-at : {rec : List ℕ} {at r : ℕ} → RunsTo nameTag stringTag rec (at + 4) r → EndsAt rec at r
 ends-at {rec} {at} k p t =
-    k .is (inner p) (bytesOf (t .rest)) (behind-own p t) (inner-tags p) (t .low) ∙ omega (arith, place-long p)
+    k .is (inner p) (bytesOf (t .behind)) (behind-own p t) (inner-tags p) (low-tag nameTag stringTag (tagOf (bytesOf (t .behind))) (t .ends))
+    ∙ omega (arith, place-long p)

@@ -1,21 +1,20 @@
 -- What a row says of a well-formed record: its offsets written, compared, and the fields that stand at one of them; and what a call writes before it fills a row.
 use mathlib.Core.Path.{_≡_}
 use mathlib.Core.Bool.{Bool, false, cond}
-use mathlib.Core.List.{List, _++_}
+use mathlib.Core.List.{List}
 use Prim.Native.Nat.{ℕ, _+_, _≤_}
 use lib.Dec.{eqb, ltb}
-use lib.ListN.{length, getD, drop}
+use lib.ListN.{length, getD}
 use Rattle.laws.specs.Cases.{pick}
 use Rattle.laws.specs.Over.{over}
-use Rattle.rules.specs.Characters.{between}
 use Rattle.rules.specs.declared.Answer.{Answer}
 use Rattle.rules.specs.Refusals.{Res, ok, mapR}
 use Rattle.rules.specs.Commands.{Place, Command}
-use Rattle.rules.specs.Records.{Field, nameTag, stringTag, placeFields, bytesOf, encode}
+use Rattle.rules.specs.Records.{placeFields, bytesOf, encode}
 use Rattle.rules.specs.WellFormed.{recordOf}
 use Rattle.rules.specs.Indexes.{offsets, agreeing}
 use Rattle.rules.specs.Answers.{indexed, Promise}
-use Rattle.record_walk.specs.Fronts.{tagOf}
+use Rattle.rules.proofs.RowPoints.{StandsAt}
 
 -- the bytes are a command's record
 pub record WellFormed (rec : List ℕ) : Type 0 where
@@ -40,20 +39,14 @@ isRight row i at = pick (ltb i (length row)) (eqb (getD row i 0) at) false
 abbrev pub Agrees : List ℕ → List ℕ → ℕ → Type 0
 Agrees rec row r = (c : Command) → recordOf rec ≡ ok c → r ≡ agreeing (offsets c) row
 
--- a place's fields stand there, and no name, element or unit behind them
-pub record PlaceThere (rec : List ℕ) (at : ℕ) (p : Place) : Type 0 where
-  pub rest : List Field
-  pub stands : drop at rec ≡ bytesOf (placeFields p) ++ bytesOf rest
-  pub inside : at ≤ length rec
-  pub low : between nameTag stringTag (tagOf (bytesOf rest)) ≡ false
-
-pub record StandsAt (rec : List ℕ) (at : ℕ) : Type 0 where
+-- the fields of some place stand there
+pub record HasPlace (rec : List ℕ) (at : ℕ) : Type 0 where
   pub p : Place
-  pub there : PlaceThere rec at p
+  pub there : StandsAt p rec at
 
--- they end there
+-- and end there
 abbrev pub EndsAt : List ℕ → ℕ → ℕ → Type 0
-EndsAt rec at r = (p : Place) → PlaceThere rec at p → r ≡ at + length (bytesOf (placeFields p))
+EndsAt rec at r = (p : Place) → StandsAt p rec at → r ≡ at + length (bytesOf (placeFields p))
 
 -- the record of what a call found, where it has room and so many slots are enough for its places
 abbrev pub Recorded : Res Command → ℕ → List ℕ → Answer → List ℕ → Type 0

@@ -7,7 +7,7 @@ use record_walk::STRING;
 ghost use Prim.Native.Nat.{_≤_};
 ghost use mathlib.Core.Path.{_≡_};
 ghost use lib.ListN.{length};
-ghost use Rattle.index.specs.Rows.{WellFormed, Indexable, Fills, isRight, Agrees, StandsAt, EndsAt};
+ghost use Rattle.index.specs.Rows.{WellFormed, Indexable, Fills, isRight, Agrees, HasPlace, EndsAt};
 
 // Writes where each place of a record begins into the row's first slots, one slot for each place.
 pub fn fill(rec: &[u8], row: &mut [u32])
@@ -59,7 +59,7 @@ pub fn agreeing(rec: &[u8], row: &[u32]) -> usize
 
 // Where the fields of the place end that begins there: behind its name and its value.
 pub fn place_end(rec: &[u8], at: usize) -> usize
-    requires { ⌜ StandsAt (now rec) at ⌝ }
+    requires { ⌜ HasPlace (now rec) at ⌝ }
     ensures { λ r. ⌜ EndsAt (now (rec .entry)) at r ⌝ }
 {
     record_walk::run_end(rec, at + LETTER_FIELD, NAME, STRING)

@@ -59,28 +59,29 @@ module _ {rec row : List ℕ} (f : Planned rec row) (slots : ℕ) (old : List �
 
 -- ---- the row filled from what was written
 
-module _ (rec plan slots : List ℕ) (old : List ℕ) {r : Answer} {new : List ℕ} (q : PutsOrder rec plan (length slots) old r new) where
-  one-sound : (c : Command) → wellFormed c ≡ true → Sound (ok c)
-  one-sound c h d e = subst (λ (x : Command). wellFormed x ≡ true) (ok-inj e) h
-
-  pub indexed-refused : {n p : ℕ} → r ≡ Refused n p → PutsIndexed rec plan old slots (Refused n p) new slots
-  indexed-refused e c w t h = refused-row (ok c) old slots (q c w t) e
-
-  module _ (o : IsOrder rec plan) {n : ℕ} (e : r ≡ Done n) where
+module _ (rec plan slots old : List ℕ) {r : Answer} {new : List ℕ} (q : PutsOrder rec plan (length slots) old r new) where
+  module _ (o : IsOrder rec plan) where
     found : Recorded (ok (o .order)) (length slots) old r new
     found = q (o .order) (o .bytes) (o .three)
 
-    pub indexed-cut : n ≤ length new
-    indexed-cut = cut-row (ok (o .order)) old slots found e
+    sound : Sound (ok (o .order))
+    sound c e = subst (λ (x : Command). wellFormed x ≡ true) (ok-inj e) (o .well)
 
-    pub indexed-part : n ≡ length (take n new)
-    indexed-part = sym (length-take-le n new indexed-cut)
+    module _ {n : ℕ} (e : r ≡ Done n) where
+      pub indexed-cut : n ≤ length new
+      indexed-cut = cut-row (ok (o .order)) old slots found e
 
-    pub indexed-fits : Indexable (take n new) (length slots)
-    indexed-fits = fits-row (ok (o .order)) old slots found e (one-sound (o .order) (o .well))
+      pub indexed-part : n ≡ length (take n new)
+      indexed-part = sym (length-take-le n new indexed-cut)
+
+      pub indexed-fits : Indexable (take n new) (length slots)
+      indexed-fits = fits-row (ok (o .order)) old slots found e sound
+
+  pub indexed-refused : {n p : ℕ} → r ≡ Refused n p → PutsIndexed rec plan old slots (Refused n p) new slots
+  indexed-refused e o = refused-row (ok (o .order)) old slots (found o) e
 
   pub indexed-done : {n : ℕ} {filled : List ℕ} → r ≡ Done n → Fills (take n new) slots filled → PutsIndexed rec plan old slots (Done n) new filled
-  indexed-done e f c w t h = done-row (ok c) old slots (q c w t) e (one-sound c h) f
+  indexed-done e f o = done-row (ok (o .order)) old slots (found o) e (sound o) f
 
 -- ---- the plan
 
@@ -136,9 +137,6 @@ module _ (rec old row : List ℕ) (z : old ≡ replicate rowLength 0) {r : Judge
 
 -- ---- the two calls over it
 
-order-sound : (rec : List ℕ) (k : ℕ) → Sound (orderOf rec k)
-order-sound rec k c e = order-well rec k c e
-
 -- a refusal of both
 refused-order : (rec : List ℕ) (k n p slots : ℕ) (old : List ℕ) → orderOf rec k ≡ bad n p → Recorded (orderOf rec k) slots old (Refused n p) old
 refused-order rec k n p slots old h = record { answers = rw h; holds = rw h }
@@ -150,7 +148,7 @@ module _ (rec row : List ℕ) (k : ℕ) {f : Found} (w : IsPlan rec k row f) whe
 
     pub order-refused : (old : List ℕ) → Orders rec k old (Refused n p) old
     unfolding ordering
-    order-refused old = without-row (orderOf rec k) old (order-sound rec k) (refused-order rec k n p mostPlaces old not-found)
+    order-refused old = without-row (orderOf rec k) old (order-well rec k) (refused-order rec k n p mostPlaces old not-found)
 
     pub row-refused : (old slots : List ℕ) → OrdersRow rec k old slots (Refused n p) old slots
     unfolding orderingRow
@@ -197,8 +195,11 @@ module _ (rec row : List ℕ) (k : ℕ) {f : Found} (w : IsPlan rec k row f) whe
     slots-three : length planned ≡ perPlace * length (offsets (orderAt (made .tree) k))
     slots-three = sym plan-cut ∙ made .three
 
+    abbrev its-order : IsOrder rest planned
+    its-order = record { order = orderAt (made .tree) k; bytes = order-whole; three = slots-three; well = order-wf (made .tree) k well }
+
     pub plan-order : IsOrder rest planned
-    plan-order = record { order = orderAt (made .tree) k; bytes = order-whole; three = slots-three; well = order-wf (made .tree) k well }
+    plan-order = its-order
 
     found-is : orderOf rec k ≡ ok (orderAt (made .tree) k)
     found-is = rw (made .is, lt-ltb k (count (made .tree)) (made .below))
@@ -206,11 +207,11 @@ module _ (rec row : List ℕ) (k : ℕ) {f : Found} (w : IsPlan rec k row f) whe
     pub order-at : (old new : List ℕ) {a : Answer} → PutsOrder rest planned mostPlaces old a new → Orders rec k old a new
     unfolding ordering
     order-at old new {a} p =
-        without-row (orderOf rec k) old (order-sound rec k)
+        without-row (orderOf rec k) old (order-well rec k)
         (subst (λ (x : Res Command). Recorded x mostPlaces old a new) (sym found-is) (p (orderAt (made .tree) k) order-whole slots-three))
 
     pub row-at : (old slots new filled : List ℕ) {a : Answer} → PutsIndexed rest planned old slots a new filled → OrdersRow rec k old slots a new filled
     unfolding orderingRow
     row-at old slots new filled {a} p =
         subst (λ (x : Res Command). RowPromise (indexed (length old) (length slots) x) old slots a new filled) (sym found-is)
-        (p (orderAt (made .tree) k) order-whole slots-three (order-wf (made .tree) k well))
+        (p its-order)

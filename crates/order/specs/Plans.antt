@@ -89,9 +89,7 @@ pub record IsOrder (rec row : List ℕ) : Type 0 where
 
 -- and the offsets with it
 abbrev pub PutsIndexed : List ℕ → List ℕ → List ℕ → List ℕ → Answer → List ℕ → List ℕ → Type 0
-PutsIndexed rec row old slots r new filled =
-    (c : Command) → orderBytes rec (positionsIn row) ≡ encode c → length row ≡ perPlace * length (offsets c) → wellFormed c ≡ true
-    → RowPromise (indexed (length old) (length slots) (ok c)) old slots r new filled
+PutsIndexed rec row old slots r new filled = (o : IsOrder rec row) → RowPromise (indexed (length old) (length slots) (ok (o .order))) old slots r new filled
 
 -- the first n numbers of the row are the plan of order k
 pub record PlanIs (rec : List ℕ) (k : ℕ) (row : List ℕ) (n : ℕ) : Type 0 where

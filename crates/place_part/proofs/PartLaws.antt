@@ -1,19 +1,18 @@
 -- The call's answer: where the row is right a slot is the place's offset, its fields stand there in the record and nothing else of their tags behind them, so their end is found.
 use mathlib.Core.Path.{_≡_, refl, sym, ap, _∙_, subst}
-use mathlib.Core.Bool.{true, false}
-use mathlib.Core.List.{List, [], _++_}
+use mathlib.Core.Bool.{false}
+use mathlib.Core.List.{List, []}
 use denote.Ref.{RefT, now}
 use Prim.Native.Nat.{ℕ, _+_, _-_, _≤_, _<_}
 use native.Mathlib.Omega.{arith}
-use borrow.Author.Tests.{leb-true, le-leb, lt-leb, lt-ltb, le-ltb}
-use lib.Dec.{leb, ltb}
-use lib.ListN.{length, getD, take, drop, length-append}
-use lib.Seq.{drop-at}
+use borrow.Author.Tests.{lt-leb}
+use lib.Dec.{leb}
+use lib.ListN.{length, getD, take, drop}
 use Rattle.rules.specs.declared.Answer.{Answer}
 use Rattle.rules.specs.declared.Answer.the-variants.{Done, Refused}
 use Rattle.rules.specs.Refusals.{ok, bad, notWellFormed, wrongRow, noSuchPlace}
 use Rattle.rules.specs.Commands.{Place, Command, command, allPlaces}
-use Rattle.rules.specs.Records.{bytesOf, placeFields, nameTag, stringTag, encode}
+use Rattle.rules.specs.Records.{encode}
 use Rattle.rules.specs.WellFormed.{recordOf}
 use Rattle.rules.specs.Positions.{placeOf}
 use Rattle.rules.specs.Indexes.{offsets, placeBytes, agreeing}
@@ -22,18 +21,16 @@ use Rattle.rules.proofs.EncodeDecode.{IsRecord, record-is}
 use Rattle.rules.proofs.RecordBound.{record-bound}
 use Rattle.rules.proofs.ResultLaws.{byRes, ok≢bad}
 use Rattle.rules.proofs.RowPoints.{StandsAt, offsets-many, stands-there}
-use Rattle.rules.proofs.RowCalls.{SlotRight, right-is, is-right, no-record, passed, PartFrom, part-of-record}
-use Rattle.record_walk.proofs.RunLaws.{low-tag}
+use Rattle.rules.proofs.RowCalls.{SlotRight, all-right, right-is, is-right, no-record, past-places, handed-back, passed, PartFrom, part-of-record}
 use Rattle.judge.specs.Judged.{blocksOf, IsGood, Judges}
 use Rattle.judge.specs.declared.Judged.{Judged}
 use Rattle.judge.specs.declared.Judged.the-variants.{Good, Bad}
-use Rattle.index.specs.Rows.{WellFormed, Agrees, PlaceThere, StandsAt as Stands, EndsAt}
+use Rattle.index.specs.Rows.{WellFormed, Agrees, HasPlace, EndsAt}
 
 -- ---- what the judge and the row say
 
 pub place-bad : (rec old new row : List ℕ) (m : ℕ) {r : Judged} → r ≡ Bad → Judges (recordOf rec) old new r → Places rec row m (Refused notWellFormed 0)
-unfolding placing
-place-bad rec old new row m e j = let h : recordOf rec ≡ bad notWellFormed 0 = subst (Judges (recordOf rec) old new) e j in rw h
+place-bad rec old new row m e j = rw (no-record rec row m notWellFormed 0 (subst (Judges (recordOf rec) old new) e j))
 
 slots-of : (c : Command) → length (allPlaces (blocksOf c)) ≡ length (offsets c)
 slots-of (command c bs) = sym (offsets-many c bs)
@@ -67,22 +64,23 @@ module _ (rec old new : List ℕ) {r : Judged} {n t : ℕ} (e : r ≡ Good n t) 
         rw (good .is, w, agreed)
 
     module _ (h : n ≤ k) where
-      all-agreed : leb (length (offsets tree)) (agreeing (offsets tree) row) ≡ true
-      all-agreed = le-leb (length (offsets tree)) (agreeing (offsets tree) row) (omega (arith, agreed, slots-are))
+      -- every slot of a place is right, and so many are
+      slots-right : (i : ℕ) → i < length (offsets tree) → SlotRight (offsets tree) row i
+      slots-right = is-right (offsets tree) row (right-is (offsets tree) row (omega (arith, agreed, slots-are)))
+
+      all-agreed : agreeing (offsets tree) row ≡ length (offsets tree)
+      all-agreed = all-right (offsets tree) row slots-right
 
       -- 26
       pub place-past : n ≤ m → Places rec row m (Refused noSuchPlace m)
-      unfolding placing
-      place-past l =
-          let w : ltb m (length (offsets tree)) ≡ false = le-ltb m (length (offsets tree)) (omega (arith, slots-are)) in
-          rw (good .is, all-agreed, w)
+      place-past l = rw (past-places rec row m tree (good .is) all-agreed (omega (arith, slots-are)))
 
       module _ (l : m < n) where
         inside : m < length (offsets tree)
         inside = omega (arith, slots-are)
 
         slot : SlotRight (offsets tree) row m
-        slot = is-right (offsets tree) row (right-is (offsets tree) row (leb-true (length (offsets tree)) (agreeing (offsets tree) row) all-agreed)) m inside
+        slot = slots-right m inside
 
         pub slot-inside : m < length row
         slot-inside = slot .0
@@ -91,32 +89,27 @@ module _ (rec old new : List ℕ) {r : Judged} {n t : ℕ} (e : r ≡ Good n t) 
         asked = placeOf tree m
 
         placed : placing rec row m ≡ ok (placeBytes tree m)
-        unfolding placing
-        placed = rw (good .is, all-agreed, lt-ltb m (length (offsets tree)) inside)
+        placed = handed-back rec row m tree (good .is) all-agreed inside
 
         part-there : PartFrom rec (getD row m 0) (placeBytes tree m)
         part-there = part-of-record rec row m (placeBytes tree m) placed
 
         -- the place's fields stand where the slot says
-        there : PlaceThere rec (getD row m 0) asked
+        there : StandsAt asked rec (getD row m 0)
         there =
-            let s : StandsAt asked (encode tree) (getD (offsets tree) m 0) = stands-there tree m inside in
-            let w : List ℕ = bytesOf (placeFields asked) ++ bytesOf (s .behind) in
-            let bytes : rec ≡ s .before ++ w = sym ((record-is rec tree (good .is)) .bytes) ∙ s .is in
-            record {
-              rest = s .behind;
-              stands = ap (drop (getD row m 0)) bytes ∙ drop-at (s .before) w (getD row m 0) (s .size ∙ sym (slot .1));
-              inside = omega (arith, part-there .inside);
-              low = low-tag nameTag stringTag (getD (bytesOf (s .behind)) 0 0) (s .ends);
-            }
+            subst (λ (x : List ℕ). StandsAt asked x (getD row m 0)) ((record-is rec tree (good .is)) .bytes)
+            (subst (λ (i : ℕ). StandsAt asked (encode tree) i) (sym (slot .1)) (stands-there tree m inside))
 
         module _ {s : ℕ} (q : s ≡ getD row m 0) where
-          pub place-stands : Stands rec s
-          place-stands = record { p = asked; there = subst (λ (i : ℕ). PlaceThere rec i asked) (sym q) there }
+          here : StandsAt asked rec s
+          here = subst (λ (i : ℕ). StandsAt asked rec i) (sym q) there
+
+          pub place-stands : HasPlace rec s
+          place-stands = record { p = asked; there = here }
 
           module _ {x : ℕ} (f : EndsAt rec s x) where
             end-is : x ≡ s + length (placeBytes tree m)
-            end-is = f asked (subst (λ (i : ℕ). PlaceThere rec i asked) (sym q) there)
+            end-is = f asked here
 
             pub end-behind : s ≤ x
             end-behind = omega (arith, end-is)

@@ -41,7 +41,7 @@ use Rattle.scan.specs.declared.Filled.{Filled}
 use Rattle.scan.specs.declared.Filled.the-variants.{Done as Filling, Refused as NotFilled}
 use Rattle.scan.specs.Filled.{Holds, IsFilled}
 use Rattle.index.specs.Rows.{Indexable, Fills, Recorded}
-use Rattle.index.proofs.CallLaws.{no-room, no-slots, both-fit, Sound, without-row, row-refused as refused-row, row-cut as cut-row, row-fits as fits-row, row-done as done-row}
+use Rattle.index.proofs.CallLaws.{no-room, no-slots, both-fit, without-row, row-refused as refused-row, row-cut as cut-row, row-fits as fits-row, row-done as done-row}
 use Rattle.reader.specs.Reader.{TokensOf, commandOf, Records, RecordsText, ReadsFor}
 
 -- ---- results
@@ -170,13 +170,9 @@ read-text s ls slots old {v} {r} {new} q h p =
     let e : read ls s ≡ commandOf ls (length s) (scan s) = rw (a, letters-are 0 ls bs a) in
     subst (λ (x : Res Command). Recorded x slots old r new) (sym e) p)
 
--- what is read is well formed
-read-sound : (s ls : List ℕ) → Sound (read ls s)
-read-sound s ls c e = read-wf ls s c e
-
 pub read-plain : (s ls old : List ℕ) {r : Answer} {new : List ℕ} → ReadsFor s ls mostPlaces old r new → Reads s ls old r new
 unfolding reading
-read-plain s ls old p = without-row (read ls s) old (read-sound s ls) p
+read-plain s ls old p = without-row (read ls s) old (read-wf ls s) p
 
 -- ---- with a row
 
@@ -190,8 +186,8 @@ module _ (s ls old row : List ℕ) {r : Answer} {new : List ℕ} (q : ReadsFor s
     row-cut = cut-row (read ls s) old row q e
 
     pub row-fits : Indexable (take n new) (length row)
-    row-fits = fits-row (read ls s) old row q e (read-sound s ls)
+    row-fits = fits-row (read ls s) old row q e (read-wf ls s)
 
     pub row-done : {filled : List ℕ} → Fills (take n new) row filled → ReadsRow s ls old row (Done n) new filled
     unfolding readingRow
-    row-done f = done-row (read ls s) old row q e (read-sound s ls) f
+    row-done f = done-row (read ls s) old row q e (read-wf ls s) f
