@@ -16,7 +16,7 @@ use Rattle.rules.specs.Printing.{more_lex, word_lex}
 use Rattle.rules.specs.Reading.{Placed, unplaced, read_place, read_places, kind_of, PlacedBlock, read_block, block_size, read_blocks, block_of, read_segs, read_cut, read_letters}
 use Rattle.rules.specs.Records.{bases_of}
 use Rattle.rules.specs.Refusals.{ok}
-use Rattle.rules.specs.Tokens.{Sep, dash, comma, colon, equals, semi, Lex, word, sep, Token, at, lex_of}
+use Rattle.rules.specs.Tokens.{Sep, dash, comma, colon, equals, semi, Lex, word, sep, Token, lex_of}
 use Rattle.rules.specs.Units.{r_d, Base, plain, letter, is_identifier, base_of}
 use Rattle.rules.proofs.CommandBack.{Along, pieces_lex, PlaceTokens, no_tokens, position_tokens, named_tokens, PlacesTokens, BlocksTokens, no_blocks, a_block, tokens_read}
 use Rattle.rules.proofs.ReadSound.{running_b_is, places_fresh}

@@ -1,1 +1,3 @@
 // The command language as relations (specs/), and that the rules' reader accepts exactly it (proofs/).
+
+#![tactic(auto)]

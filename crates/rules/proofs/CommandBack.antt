@@ -16,7 +16,7 @@ use Rattle.rules.specs.Printing.{value_lex, more_lex, joined_lex, word_lex, plac
 use Rattle.rules.specs.Reading.{Placed, placed, unplaced, read_position, read_of_kind, read_place, read_places, kind_of, PlacedBlock, placed_block, read_blocks, running, running_blocks, block_of, read_cut}
 use Rattle.rules.specs.Records.{bases_of, all_bases}
 use Rattle.rules.specs.Refusals.{ok}
-use Rattle.rules.specs.Tokens.{Sep, dash, comma, colon, equals, semi, Lex, sep, at, sep_code}
+use Rattle.rules.specs.Tokens.{Sep, dash, comma, colon, equals, semi, Lex, sep, sep_code}
 use Rattle.rules.specs.Units.{r_d, Base, plain, is_identifier}
 use Rattle.rules.specs.WellFormed.{wf_pieces, wf_place, wf_block, well_formed}
 use Rattle.rules.proofs.Counts.{count_pos}
@@ -155,7 +155,7 @@ place_read : {k : Bool} {xs : List Lex} {p : Place} (bs : List Base) (n : ℕ) (
     → get_or bs n (plain r_d) ≡ place_base p → free_of k ns (place_name p) ≡ true → read_place k bs n ns (seg (toks ps xs) e) ≡ ok (placed (t.spot ps e) p)
 place_read {k} bs n ns ps e t hn hb hf = rw (lt-ltb n 32 hn, t.kind ps, beq_refl k, hb) (t.reads ps e ns hf)
 
-places_read_lem : {xs : List Lex} {pl : List Place} (k : Bool) (bs : List Base) (n : ℕ) (ns : List Name) (ps : List ℕ) (e : ℕ) → PlacesTokens k xs pl → n + length pl ≤ 32
+places_read_lem : (k : Bool) {xs : List Lex} {pl : List Place} (bs : List Base) (n : ℕ) (ns : List Name) (ps : List ℕ) (e : ℕ) → PlacesTokens k xs pl → n + length pl ≤ 32
     → Along bs n (map place_base pl) → fresh k ns (map place_name pl) ≡ true → PlacesBack k bs n ns (split comma e (toks ps xs)) pl
 places_read_lem k bs n ns ps e (last {xs = xs} {p = p} t) hn ha hf =
     record {

@@ -13,8 +13,8 @@ use Rattle.rules.specs.Refusals.{ok, no_room}
 use Rattle.rules.specs.Answers.{fitted, Promise}
 
 module _ (w old : List ℕ) where
-  pub no_room : {n : ℕ} → n ≡ length w → length old < n → Promise (fitted old (ok w)) old (Refused no_room n) old
-  no_room e h =
+  pub no_room_lem : {n : ℕ} → n ≡ length w → length old < n → Promise (fitted old (ok w)) old (Refused no_room n) old
+  no_room_lem e h =
       let t : leb (length w) (length old) ≡ false = lt-leb (length w) (length old) (omega arith) in
       record { answers = rw (t, e); holds = rw t }
 

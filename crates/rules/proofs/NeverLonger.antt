@@ -9,7 +9,7 @@ use Rattle.rules.specs.Commands.{Name, place_name, Command, Seg, seg, split, Cut
 use Rattle.rules.specs.Printing.{lex_text, render, value_lex, more_lex, joined_lex, word_lex, name_lex, place_lex, block_lex, command_lex, print}
 use Rattle.rules.specs.Reading.{Placed, unplaced, read_places, kind_of, PlacedBlock, read_block, block_size, read_blocks, block_of, read_segs, read_cut, read}
 use Rattle.rules.specs.Refusals.{ok}
-use Rattle.rules.specs.Tokens.{Sep, dash, comma, colon, equals, semi, Lex, word, sep, Token, at, idle}
+use Rattle.rules.specs.Tokens.{Sep, dash, comma, colon, equals, semi, Lex, word, sep, Token, idle}
 use Rattle.rules.specs.Units.{Base, is_identifier}
 use Rattle.rules.proofs.ReadSteps.{Splits, last_seg, end_seg, in_seg, splits, Cuts, no_cut, cut_here, cut_later, cuts, scan_read, value_parts_lem, MoreRead, pieces_end, dashed, PiecesRead, pieced, pieces_read, KindRead, omitted, positional, named, place_read, places_read_lem, block_read, blocks_read_lem, segs_read, command_read_lem}
 use Rattle.rules.proofs.ResultLaws.{ok_inj, ok≢bad}

@@ -15,7 +15,7 @@ use Rattle.rules.specs.Commands.{Name, Element, Place, place_name, Command, plac
 use Rattle.rules.specs.Groups.{read_value}
 use Rattle.rules.specs.Reading.{Placed, placed, unplaced, read_places, kind_of, PlacedBlock, placed_block, read_block, block_size, read_blocks, running, running_blocks, block_of, read_segs, read_cut, read}
 use Rattle.rules.specs.Refusals.{ok}
-use Rattle.rules.specs.Tokens.{Sep, comma, colon, equals, semi, word, Token, at}
+use Rattle.rules.specs.Tokens.{Sep, comma, colon, equals, semi, word, Token}
 use Rattle.rules.specs.Units.{Base, is_identifier}
 use Rattle.rules.specs.WellFormed.{well_formed, names_differ, wf_block, wf_place, wf_pieces, short}
 use Rattle.rules.proofs.CommandBack.{mult_append}

@@ -398,6 +398,11 @@ pub data Splits (s : Sep) (e : ℕ) : List Token → List Seg → Type 0 where
   end_seg : {p : ℕ} {ts : List Token} {ss : List Seg} → Splits s e ts ss → Splits s e (at p (sep s) ∷ ts) (seg [] p ∷ ss)
   in_seg : {t : Token} {q : ℕ} {ts us : List Token} {ss : List Seg} → Splits s e ts (seg us q ∷ ss) → Splits s e (t ∷ ts) (seg (t ∷ us) q ∷ ss)
 
+some_seg : {s : Sep} {e : ℕ} {ts : List Token} {ss : List Seg} → Splits s e ts ss → is_nil ss ≡ false
+some_seg last_seg = refl
+some_seg (end_seg r) = refl
+some_seg (in_seg r) = refl
+
 pub splits : (s : Sep) (e : ℕ) (ts : List Token) → Splits s e ts (split s e ts)
 splits s e [] = last_seg
 splits s e (at p x ∷ ts) =
@@ -407,6 +412,7 @@ splits s e (at p x ∷ ts) =
   where
     longer : (ss : List Seg) → Splits s e ts ss → Splits s e (at p x ∷ ts) (cons_head (at p x) ss)
     longer (seg us q ∷ ss) r = in_seg r
+    longer [] r = absurd (false≢true (sym (some_seg r)))
 
 pub data Cuts (s : Sep) : List Token → Cut → Type 0 where
   no_cut : {ts : List Token} → Cuts s ts uncut

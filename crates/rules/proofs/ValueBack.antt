@@ -89,9 +89,9 @@ unit_free s (sep t) h = absurd (false≢true h)
 pub joiner_free : (s t : Sep) → is_joiner s ≡ false → is_joiner t ≡ true → no_sep s (sep t) ≡ true
 joiner_free s t h k = by_bool (eqb (sep_code s) (sep_code t)) (λ y. absurd (false≢true (sym h ∙ ap is_joiner (sep_same s t y) ∙ k))) (λ y. rw y)
 
-linked_free : {b : Base} {xs : List Lex} {ls : List Link} (s : Sep) → is_joiner s ≡ false → Linked (Reads b) xs ls → all (no_sep s) xs ≡ true
-linked_free s h nil = refl
-linked_free {b} s h (cons {s = t} {x = x} {i = i} f u l) = rw (joiner_free s t h f, unit_free s x (reads_unit b x i u)) (linked_free s h l)
+linked_free : (b : Base) {xs : List Lex} {ls : List Link} (s : Sep) → is_joiner s ≡ false → Linked (Reads b) xs ls → all (no_sep s) xs ≡ true
+linked_free b s h nil = refl
+linked_free b s h (cons {s = t} {x = x} {i = i} f u l) = rw (joiner_free s t h f, unit_free s x (reads_unit b x i u)) (linked_free b s h l)
 
 pub linked_of : (b : Base) (ls : List Link) → all (link_ok b) ls ≡ true → Linked (Reads b) (links_lex b ls) ls
 linked_of b [] h = nil
@@ -102,13 +102,20 @@ record Alternates (b : Base) (ts : List Token) (e : ℕ) (is : List (Join Unit))
   turns : alternate joiner ts e ≡ ok js
   units : read_units b js ≡ ok is
 
+-- a joining separator, and the unit behind it
+joined_turn : (s : Sep) (x : Lex) (p q : ℕ) (ts : List Token) (e : ℕ) {js : List (Join Lex)} → is_joiner s ≡ true → is_unit x ≡ true → alternate joiner ts e ≡ ok js
+    → alternate joiner (at p (sep s) ∷ at q x ∷ ts) e ≡ ok (join s p q x ∷ js)
+joined_turn s x p q ts e h u k =
+    let after : alternate (unit_after s p) (at q x ∷ ts) e ≡ ok (join s p q x ∷ _) = rw (u, alternate) (rw k) in
+    rw (h, alternate) after
+
 alternates : {b : Base} {xs : List Lex} {ls : List Link} (ps : List ℕ) (e : ℕ) → Linked (Reads b) xs ls → Alternates b (toks ps xs) e (mk ps ls)
 alternates ps e nil = record { js = []; turns = refl; units = refl }
-alternates {b} ps e (cons {s = s} {x = x} {i = i} h u l) =
+alternates {b} ps e (cons {s = s} {x = x} {i = i} {xs = ys} h u l) =
     let o = alternates (tl (tl ps)) e l in
     record {
       js = join s (hd ps) (hd (tl ps)) x ∷ o.js;
-      turns = rw (h, alternate) (rw (reads_unit b x i u, alternate) (rw o.turns));
+      turns = joined_turn s x (hd ps) (hd (tl ps)) (toks (tl (tl ps)) ys) e h (reads_unit b x i u) o.turns;
       units = rw (u (hd (tl ps)), o.units);
     }
 
@@ -280,10 +287,10 @@ pub record ValueTokens (b : Base) (xs : List Lex) (v : List Element) : Type 0 wh
   pub free : (s : Sep) → is_joiner s ≡ false → all (no_sep s) xs ≡ true
   pub reads : (ps : List ℕ) (end : ℕ) → read_value b (toks ps xs) end ≡ ok v
 
-links_read : {b : Base} {l : List Unit} {u : Unit} {ls ks : List Link} {e : Element} {es : List Element} {xs : List Lex} (x : Lex) (ps : List ℕ) (end : ℕ)
+links_read : (b : Base) {l : List Unit} {u : Unit} {ls ks : List Link} {e : Element} {es : List Element} {xs : List Lex} (x : Lex) (ps : List ℕ) (end : ℕ)
     → length l ≤ 3 → Tail l u ls e → Laters l ks es → length (e ∷ es) ≤ 64 → value_count (e ∷ es) ≤ 4096
     → Reads b x (first_unit l u) → Linked (Reads b) xs ((dash_links l u ++ ls) ++ ks) → read_value b (toks ps (x ∷ xs)) end ≡ ok (e ∷ es)
-links_read {b} {l} {u} {ls} {ks} {e} {es} {xs} x ps end h3 t r h64 hc v k =
+links_read b {l} {u} {ls} {ks} {e} {es} {xs} x ps end h3 t r h64 hc v k =
     let qs : List ℕ = tl ps in
     let i : Unit = first_unit l u in
     let T : List Link = dash_links l u ++ ls in
@@ -305,8 +312,8 @@ value_tokens {b} {xs = xs} x h3 t r h64 hc v k =
       x = x;
       ys = xs;
       is = refl;
-      free = λ s h. rw (unit_free s x (reads_unit b x _ v)) (linked_free s h k);
-      reads = λ ps end. links_read x ps end h3 t r h64 hc v k;
+      free = λ s h. rw (unit_free s x (reads_unit b x _ v)) (linked_free b s h k);
+      reads = λ ps end. links_read b x ps end h3 t r h64 hc v k;
     }
 
 -- what a well-formed element has

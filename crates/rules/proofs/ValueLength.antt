@@ -13,7 +13,7 @@ use Rattle.laws.specs.Lists.{is_nil, eq_l_refl}
 use Rattle.rules.specs.Commands.{Element, leading, last_unit}
 use Rattle.rules.specs.Groups.{Join, join, Want, unit_after, joiner, Group, group, Collected, collected, collect_one, begins, collect, Arg, arg}
 use Rattle.rules.specs.Printing.{same_units, lex_text, sep_text, render, unit_lex, Link, link, first_unit, dash_links, inc_links, tail_links, full_links, is_short, later_links, rest_links, links_lex, value_lex}
-use Rattle.rules.specs.Tokens.{Sep, Token, at}
+use Rattle.rules.specs.Tokens.{Sep, Token}
 use Rattle.rules.specs.Units.{Radix, Base, Unit, num}
 use Rattle.rules.proofs.ReadSteps.{every_sep, JoinsRead, joins_end, separator, unit, Full, last, joined, strip, Tail, alone, up_to, up_by, LaterRead, short, full, LatersRead, laters_end, more, ValueParts, value_parts}
 use Rattle.rules.proofs.ScanLength.{text_len}
@@ -134,9 +134,11 @@ module _ (b : Base) where
       either true has = omega (arith, argument_len f d, lead_pos b (leading e) (has refl))
       either false has = omega (arith, argument_len f d, full_links_lem e)
 
-  pub laters_len : {n : ℕ} (e₀ : Element) {gs : List Group} {es : List Element} → LatersRead n (leading e₀) gs es → w_l b (rest_links e₀ es) ≤ w_gs b gs
-  laters_len e₀ laters_end = omega arith
-  laters_len e₀ (more {e = e} {es = es} hn r m) = omega (arith, w_l_append b (later_links (is_short e₀ e) e) (rest_links e es), later_len e₀ r, laters_len e m)
+  pub laters_len : {n : ℕ} (e₀ : Element) {l : List Unit} {gs : List Group} {es : List Element} → l ≡ leading e₀ → LatersRead n l gs es
+      → w_l b (rest_links e₀ es) ≤ w_gs b gs
+  laters_len e₀ q laters_end = omega arith
+  laters_len e₀ q (more {e = e} {es = es} hn r m) =
+      omega (arith, w_l_append b (later_links (is_short e₀ e) e) (rest_links e es), later_len e₀ (rw q at r), laters_len e refl m)
 
   abbrev pub v_l : List Element → ℕ
   v_l [] = 0
@@ -154,7 +156,7 @@ module _ (b : Base) where
         w_l_append b (full_links e) (rest_links e es),
         full_links_lem e,
         argument_len f d,
-        laters_len e m,
+        laters_len e refl m,
         rw o at (collect_len b is),
         joins_len b j,
         unit_length u,

@@ -1,8 +1,9 @@
 // Documents 01 and 02 as definitions (specs/) and what is proved of them (proofs/). The types that the calls answer with, the numbers of the
 // refusals and the limits are the only code.
+#![tactic(auto)]
 
 // What a call answers: the bytes written (for count the number of orders, for member 0 or 1 and the position, for place the length of its fields), or the refusal's number and its place.
-#[derive(Drop)]
+#[derive(Clone, Copy)]
 pub enum Answer {
     Done(u32),
     Refused(u8, u32),
@@ -90,14 +91,14 @@ pub const MOST_FRACTION: usize = 9;
 
 // M-100: "The line keeper carries its 1,024 bytes with it." The line that it holds is the first `count` of them.
 #[repr(C)]
-#[derive(Drop)]
+#[derive(Clone, Copy)]
 pub struct Keeper {
     pub bytes: [u8; 1024],
     pub count: u32,
 }
 
 // What a key gives: the keeper after it, and the answer, whose value is 1 if the line is ready, else 0.
-#[derive(Drop)]
+#[derive(Clone, Copy)]
 pub struct Pressed {
     pub keeper: Keeper,
     pub answer: Answer,

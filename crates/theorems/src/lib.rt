@@ -1,1 +1,3 @@
 // The user's demands as named types (specs/Demands), and a proof of each (proofs/Proved).
+
+#![tactic(auto)]
