@@ -1,4 +1,6 @@
 // Digits in every base: the classes of bytes, a run of digits read, and digits written straight to their place.
+#![tactic(auto)]
+
 ghost use Rattle.std.specs.Prelude.{◌≡◌, ℕ, ◌+◌, ◌<◌, ◌≤◌, length};
 ghost use Rattle.laws.specs.Over.{over};
 ghost use Rattle.rules.specs.Characters.{capital, is_letter, is_digit, is_alnum, is_symbol_char};
@@ -22,7 +24,7 @@ const SMALL: u8 = 32;
 const BEFORE_SMALL_A: u8 = BEFORE_A + SMALL;
 
 // Where a run of digits ends, and its value.
-#[derive(Drop)]
+#[derive(Clone, Copy)]
 pub struct Run {
     pub end: usize,
     pub value: u64,

@@ -1,4 +1,6 @@
 // Tagged fields of records. Each writer is lent the buffer from its field's start on, and says every byte of it.
+#![tactic(auto)]
+
 ghost use Rattle.std.specs.Prelude.{◌≡◌, [], ◌∷◌, map, ◌+◌, ◌≤◌, ◌<◌, length};
 ghost use Rattle.laws.specs.Over.{over};
 ghost use Rattle.rules.specs.Characters.{capital};

@@ -9,7 +9,7 @@ use lib.Seq.{take_at}
 use Rattle.laws.specs.Over.{over}
 use Rattle.rules.specs.declared.Answer.{Answer}
 use Rattle.rules.specs.declared.Answer.TheVariants.{Done, Refused}
-use Rattle.rules.specs.Refusals.{Res, ok, bad, map_r, no_room, most_places}
+use Rattle.rules.specs.Refusals.{Res, ok, map_r, no_room, most_places}
 use Rattle.rules.specs.Commands.{Command}
 use Rattle.rules.specs.Records.{encode}
 use Rattle.rules.specs.WellFormed.{well_formed, record_of}
@@ -25,8 +25,8 @@ use Rattle.index.specs.Rows.{Indexable, Fills, Recorded}
 
 module _ (c : Command) (slots : ℕ) (old : List ℕ) where
   -- 17 of the record
-  pub no_room : {n : ℕ} → n ≡ length (encode c) → length old < n → Recorded (ok c) slots old (Refused no_room n) old
-  no_room e h = let w = index_no_room old slots (ok c) c refl (omega arith) in record { answers = rw (w, e); holds = rw w }
+  pub no_room_lem : {n : ℕ} → n ≡ length (encode c) → length old < n → Recorded (ok c) slots old (Refused no_room n) old
+  no_room_lem e h = let w = index_no_room old slots (ok c) c refl (omega arith) in record { answers = rw (w, e); holds = rw w }
 
   module _ (room : length (encode c) ≤ length old) where
     -- 17 of the row

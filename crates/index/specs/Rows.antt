@@ -1,5 +1,5 @@
 -- What a row says of a well-formed record: its offsets written, compared, and the fields that stand at one of them; and what a call writes before it fills a row.
-use Rattle.std.specs.Prelude.{◌≡◌, Bool, false, cond, List, ℕ, ◌+◌, ◌≤◌, eqb, ltb, length, get_or}
+use Rattle.std.specs.Prelude.{◌≡◌, Bool, false, List, ℕ, ◌+◌, ◌≤◌, eqb, ltb, length, get_or}
 use Rattle.laws.specs.Cases.{pick}
 use Rattle.laws.specs.Over.{over}
 use Rattle.rules.specs.declared.Answer.{Answer}

@@ -1,4 +1,6 @@
 // The index of places: a row of offsets filled from a record that is well formed, and compared with it; where a place's fields end.
+#![tactic(auto)]
+
 ghost use Rattle.std.specs.Prelude.{◌≤◌, ◌≡◌, length};
 ghost use Rattle.index.specs.Rows.{WellFormed, Indexable, Fills, is_right, Agrees, HasPlace, EndsAt};
 

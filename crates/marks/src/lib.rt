@@ -1,4 +1,6 @@
 // Words compared; and marks of the words that were met, so that most of those that were not need no comparison.
+#![tactic(auto)]
+
 ghost use Rattle.std.specs.Prelude.{◌≡◌, ◌-◌};
 ghost use Rattle.laws.specs.Lists.{eq_l};
 ghost use Rattle.marks.specs.Marks.{mixed, key_of, no_marks, has_bit, has_both, marked, with_bit, added, added_if};
@@ -25,7 +27,7 @@ const BUT_ONE: u64 = 1045713;
 const LAST: u64 = 844793;
 
 // Marks of the words that were met: for each key a bit in each of the numbers.
-#[derive(Drop)]
+#[derive(Clone, Copy)]
 pub struct Marks {
     pub first: u64,
     pub second: u64,

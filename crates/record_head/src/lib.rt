@@ -1,4 +1,6 @@
 // What stands before a record's code: a field with the number of its orders. Whoever walks over a record starts behind it.
+#![tactic(auto)]
+
 ghost use Rattle.std.specs.Prelude.{◌≡◌, ◌≤◌, length};
 ghost use Rattle.laws.specs.Over.{over};
 ghost use Rattle.rules.specs.Records.{head_size, head_bytes, count_in};

@@ -1,4 +1,6 @@
 // A record's fields, one behind the other, "one-byte tag, two-byte length, content": their tags and sizes, the numbers in them, and the walker over them.
+#![tactic(auto)]
+
 ghost use Rattle.std.specs.Prelude.{◌≡◌, ◌+◌, ◌*◌, ◌≤◌, length, drop};
 ghost use Rattle.rules.specs.Characters.{between};
 ghost use Rattle.laws.specs.Over.{over};
@@ -98,7 +100,7 @@ const THIRD: u32 = 65536;
 const FOURTH: u32 = 16777216;
 
 // What stands at a position: a field, whose content is from `start` to `next`, where the next field begins; or no field.
-#[derive(Drop)]
+#[derive(Clone, Copy)]
 pub enum Found {
     Field { tag: u8, start: usize, next: usize },
     Nothing,

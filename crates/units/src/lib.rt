@@ -1,4 +1,6 @@
 // One word under its place's base: a numeral, a keyed numeral, an identifier or a symbolic name, or why it is none (12, 13).
+#![tactic(auto)]
+
 ghost use Rattle.std.specs.Prelude.{◌≡◌, ℕ, ◌<◌, ◌≤◌, length, get_or, drop, eqb};
 ghost use Rattle.laws.specs.Lists.{all_at};
 ghost use Rattle.rules.specs.Characters.{byte, is_digit, is_alnum, is_symbol_char};
@@ -7,7 +9,7 @@ ghost use Rattle.units.specs.Words.{sized, of_numeral, fraction_unit, plain_unit
 
 // What a word is. A numeral has its base's letter, its count of fraction digits and the whole number without the stop; a keyed numeral is
 // the capitals of the word without its first `skip` characters; an unreadable word is refused with 12, a numeral too big with 13.
-#[derive(Drop)]
+#[derive(Clone, Copy)]
 pub enum Word {
     Numeral {
         letter: u8,

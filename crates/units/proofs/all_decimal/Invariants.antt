@@ -1,0 +1,13 @@
+-- All from the start are of the class exactly where all from here on are.
+use Rattle.laws.specs.Lists.{all_at}
+use Rattle.rules.specs.Characters.{is_digit}
+use mathlib.Core.Path.{◌≡◌}
+use lib.ListN.{length}
+use Prim.Native.Nat.{◌-◌}
+use Rattle.units.proofs.all_decimal.Given as goal
+
+abbrev pub invariant-loop-i : goal.invariant-loop-i
+invariant-loop-i l = all_at is_digit l.word l.from ≡ all_at is_digit l.word l.i
+
+abbrev pub decreases-loop-i : goal.decreases-loop-i
+decreases-loop-i l = length l.word - l.i
