@@ -1,4 +1,6 @@
 // The judge of a whole record, in one walk from behind its head: whether it is well formed, where the values of its places stand, the number of orders.
+#![tactic(auto)]
+
 ghost use Rattle.std.specs.Prelude.{◌≡◌, List, ◌*◌, ◌%◌, ◌<◌, ◌≤◌, length, drop};
 ghost use Rattle.rules.specs.Refusals.{most_places, most_arguments, most_orders};
 ghost use Rattle.rules.specs.Commands.{Place};
@@ -25,7 +27,7 @@ const MOST_PIECES: usize = rules::MORE_OF_CODE + 1;
 const NO_NAME: u32 = 0;
 
 // Places: how many with those before, the orders with those before, and where the next field begins.
-#[derive(Drop)]
+#[derive(Clone, Copy)]
 pub enum Places {
     Are {
         number: usize,
@@ -36,21 +38,21 @@ pub enum Places {
 }
 
 // A record: its number of places and of orders; or not well formed.
-#[derive(Drop)]
+#[derive(Clone, Copy)]
 pub enum Judged {
     Good { places: usize, total: u32 },
     Bad,
 }
 
 // The orders of places: how many, or more than there may be.
-#[derive(Drop)]
+#[derive(Clone, Copy)]
 pub enum Orders {
     Are(u32),
     TooMany,
 }
 
 // The next place of a block: its number of arguments, where its value begins and where it ends, and the key of its name; or no such place.
-#[derive(Drop)]
+#[derive(Clone, Copy)]
 enum Next {
     Is {
         number: u32,

@@ -1,4 +1,6 @@
 // Whether a place's name stands already among the places of its block that were judged before it.
+#![tactic(auto)]
+
 ghost use Rattle.std.specs.Prelude.{◌≡◌, ◌≤◌, length};
 ghost use Rattle.rules.specs.Records.{name_tag};
 ghost use Rattle.record_walk.specs.Runs.{Whole, RunsTo};
@@ -8,14 +10,14 @@ ghost use Rattle.judge_names.specs.Names.{bytes_key, NameAt, StandsIn, Meets, Te
 const NO_KEY: u32 = 0;
 
 // Where a place's name begins and ends.
-#[derive(Drop)]
+#[derive(Clone, Copy)]
 struct Spot {
     start: usize,
     end: usize,
 }
 
 // A name stands the first time in its block, and this is its key; or it stands there already.
-#[derive(Drop)]
+#[derive(Clone, Copy)]
 pub enum Told {
     Once { key: u32 },
     Twice,

@@ -1,4 +1,6 @@
 // A place in a record: its base, the pieces of its name, its value; and pieces of the code, which are judged alike.
+#![tactic(auto)]
+
 ghost use Rattle.std.specs.Prelude.{◌≡◌, true, false, ◌≤◌, length, drop};
 ghost use Rattle.rules.specs.Records.{place_tag};
 ghost use Rattle.record_walk.specs.Fronts.{head_tag};
@@ -9,14 +11,14 @@ ghost use Rattle.judge_place.specs.Judging.{IsPieces, IsName, IsParts, IsPlace};
 const MOST_PIECES: usize = rules::MORE_OF_NAME + 1;
 
 // Pieces: how many, and where the next field begins.
-#[derive(Drop)]
+#[derive(Clone, Copy)]
 pub enum Pieces {
     Are { count: usize, next: usize },
     Bad,
 }
 
 // A place: its number of arguments (0: it is omitted), where its value begins, and where the next field begins.
-#[derive(Drop)]
+#[derive(Clone, Copy)]
 pub enum OnePlace {
     Is {
         number: u32,

@@ -1,4 +1,6 @@
 // One unit field of a record judged: whether its unit would be read as that kind under its place's base.
+#![tactic(auto)]
+
 ghost use Rattle.std.specs.Prelude.{◌≡◌, true, false, ◌+◌, ◌≤◌, length};
 ghost use Rattle.laws.specs.Lists.{all_at};
 ghost use Rattle.rules.specs.Characters.{is_permitted, is_word_char};

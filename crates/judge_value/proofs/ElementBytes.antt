@@ -1,6 +1,6 @@
 -- Units and elements that were read from the front of bytes are written to the same bytes again, and well-formed ones are read back from their fields.
 use mathlib.Core.Path.{◌≡◌, refl, sym, ap, ap₂, ◌∙◌, subst}
-use mathlib.Core.Bool.{Bool, true, false, cond, ◌&&◌, false≢true, not}
+use mathlib.Core.Bool.{true, false, cond, ◌&&◌, false≢true, not}
 use mathlib.Core.List.{List, [], ◌∷◌, ◌++◌, map}
 use mathlib.Core.Option.{none, some}
 use Prim.Native.Nat.{ℕ, ◌/◌, ◌%◌, ◌≤◌}

@@ -195,6 +195,9 @@ module _ {rec : List ℕ} {at t s k : ℕ} (f : IsField rec at t s k) where
       long : length (bytes_in rec s k) ≡ 8
       long = f.long ∙ omega (arith, range_long six)
 
+      of_range : element_of t (bytes_in rec s k) (ends g.lead g.u) ≡ range_of (num4 rec s) (num4 rec (s + 4)) (ends g.lead g.u)
+      of_range = rw (six, long) (ap (λ z. range_of z (num4 (bytes_in rec s k) 4) (ends g.lead g.u)) up ∙ ap (λ z. range_of (num4 rec s) z (ends g.lead g.u)) inc)
+
       -- what the answer on its terms says
       abbrev RangeAs : Terms → Type 0
       RangeAs (More m) = ElementIs b rec at n m j
@@ -205,14 +208,14 @@ module _ {rec : List ℕ} {at t s k : ℕ} (f : IsField rec at t s k) where
           let x = range_from g.lead g.u lo (num4 rec s) (num4 rec (s + 4)) q in
           record {
             e = range g.lead x.r lo (num4 rec s) (num4 rec (s + 4));
-            is = made_of ∙ rw (six, long, up, inc, x.is, y.0);
+            is = made_of ∙ rw (of_range, x.is, y.0);
             inside = g.inside;
             units = g.count;
             counts = ap (λ z. z + 1) (sym y.1);
           }
-      range_as (Whole lo) q Bad y = made_of ∙ rw (six, long, up, inc, (range_from g.lead g.u lo (num4 rec s) (num4 rec (s + 4)) q).is, y)
+      range_as (Whole lo) q Bad y = made_of ∙ rw (of_range, (range_from g.lead g.u lo (num4 rec s) (num4 rec (s + 4)) q).is, y)
       range_as NotWhole q (More m) y = absurd y
-      range_as NotWhole q Bad y = made_of ∙ rw (six, long, up, inc, no_range g.lead g.u (num4 rec s) (num4 rec (s + 4)) q)
+      range_as NotWhole q Bad y = made_of ∙ rw (of_range, no_range g.lead g.u (num4 rec s) (num4 rec (s + 4)) q)
 
       module _ {r : Terms} (sm : Small rec) (e : r ≡ terms_of rec s (lower_at rec l)) where
         range_there : RangeAs r

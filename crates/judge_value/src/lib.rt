@@ -1,4 +1,6 @@
 // A value in a record: its elements, each followed by its units, judged under the place's base and counted.
+#![tactic(auto)]
+
 ghost use Rattle.std.specs.Prelude.{◌≡◌, true, ◌+◌, ◌≤◌, ◌<◌, length, get_or, drop};
 ghost use Rattle.rules.specs.Units.{base_at};
 ghost use Rattle.rules.specs.Records.{is_element, numeral_tag};
@@ -13,7 +15,7 @@ const MOST_UNITS: usize = rules::MOST_LEADING + 1;
 const MOST_ARGUMENTS: u32 = rules::MOST_ARGUMENTS as u32;
 
 // The units of an element: how many, where the last one stands, where the next field begins.
-#[derive(Drop)]
+#[derive(Clone, Copy)]
 pub enum Units {
     Are {
         count: usize,
@@ -24,21 +26,21 @@ pub enum Units {
 }
 
 // A lower end: a numeral without fraction.
-#[derive(Drop)]
+#[derive(Clone, Copy)]
 pub enum Lower {
     Is(u32),
     Bad,
 }
 
 // The terms of a range behind its lower end.
-#[derive(Drop)]
+#[derive(Clone, Copy)]
 pub enum Terms {
     More(u32),
     Bad,
 }
 
 // An element: its number of units, its number of arguments behind the first, and where the next field begins.
-#[derive(Drop)]
+#[derive(Clone, Copy)]
 pub enum OneElement {
     Is {
         units: usize,
@@ -49,7 +51,7 @@ pub enum OneElement {
 }
 
 // A value: its number of arguments, and where the next field begins.
-#[derive(Drop)]
+#[derive(Clone, Copy)]
 pub enum Arguments {
     Are { number: u32, next: usize },
     Bad,
