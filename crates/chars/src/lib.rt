@@ -1,4 +1,6 @@
 // The classes of bytes, by what a byte begins, as one constant table that a call makes once and lends.
+#![tactic(auto)]
+
 ghost use Rattle.std.specs.Prelude.{◌≡◌};
 ghost use Rattle.chars.specs.Classes.{class_of, table};
 ghost use Rattle.chars.specs.Off.{IsOff};
@@ -172,7 +174,7 @@ pub fn class(classes: &[u8; 128], b: u8) -> u8
 }
 
 // Where the first byte stands that is not permitted.
-#[derive(Drop)]
+#[derive(Clone, Copy)]
 pub enum Off {
     At(usize),
     Nowhere,

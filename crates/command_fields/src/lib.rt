@@ -1,5 +1,7 @@
 // The record of a command that is right, written from its tokens: head, code, block by block, place by place. Each writer is lent the buffer
 // from its start position, and says every byte of it.
+#![tactic(auto)]
+
 ghost use Rattle.std.specs.Prelude.{◌+◌, ◌≤◌, ◌≡◌, true, cond, [], ◌∷◌, length};
 ghost use Rattle.laws.specs.Over.{over};
 ghost use Rattle.rules.specs.Characters.{byte};
@@ -17,7 +19,7 @@ use token_table;
 use value_fields;
 
 // What was written: the number of bytes, and the number of places so far.
-#[derive(Drop)]
+#[derive(Clone, Copy)]
 pub struct Put {
     pub bytes: usize,
     pub places: usize,

@@ -1,4 +1,6 @@
 // The list of base letters: 1, and the base of a place.
+#![tactic(auto)]
+
 ghost use Rattle.std.specs.Prelude.{◌≡◌};
 ghost use Rattle.laws.specs.Keys.{any_of};
 ghost use Rattle.rules.specs.Units.{letter};

@@ -7,7 +7,7 @@ use native.Mathlib.Omega.{arith}
 use lib.ListN.{length, get_or, take, drop, drop_of_length-le}
 use Rattle.laws.specs.Cases.{by_bool}
 use Rattle.laws.specs.Lists.{next}
-use Rattle.rules.specs.Commands.{command, split, cut_at, pieces}
+use Rattle.rules.specs.Commands.{command, place_count, split, cut_at, pieces}
 use Rattle.rules.specs.Indexes.{offsets}
 use Rattle.rules.specs.Orders.{count}
 use Rattle.rules.specs.Reading.{Placed, placed, PlacedBlock, placed_block, block_of, read_blocks, running_blocks, read_segs, read_cut}
@@ -27,8 +27,9 @@ use Rattle.token_table.specs.Parts.{before, place_or, parts_from, words_in, word
 use Rattle.token_table.proofs.FindLaws.{parts_all, parts_next, cut_at_lem, cut_none}
 use Rattle.token_table.proofs.WordLaws.{pieces_words, words_bytes, cap_cap, cap_most, cap_small}
 use Rattle.token_table.proofs.AltLaws.{verdict_ok, verdict_bad}
+use Rattle.read_place.specs.Places.{place_size}
 use Rattle.read_place.proofs.PlaceLaws.{bytes_length, cap_right}
-use Rattle.read_command.specs.Blocks.{opened, tally_places, tally_blocks, blocks_read, tally_read, command_read}
+use Rattle.read_command.specs.Blocks.{counted, opened, tally_places, tally_blocks, blocks_read, tally_read, command_read}
 use Rattle.read_command.specs.declared.Tally.{Tally}
 use Rattle.read_command.specs.declared.Tallied.{Tallied}
 use Rattle.read_command.specs.declared.Tallied.TheVariants.{Fine}
@@ -40,7 +41,8 @@ use Rattle.read_command.proofs.TallyLaws.{places_blocks, orders_of, orders_block
 
 small_places : (t : Tally) (xs : List Placed) → t.bytes ≤ 4294967295 → (tally_places t xs).bytes ≤ 4294967295
 small_places t [] h = h
-small_places t (placed p x ∷ xs) h = small_places _ xs (cap_most _ refl)
+small_places t (placed p x ∷ xs) h =
+    small_places (counted t (place_count x) p (capped (place_size x))) xs (cap_most (t.bytes + capped (place_size x)) refl)
 
 small_blocks : (t : Tally) (bs : List PlacedBlock) → t.bytes ≤ 4294967295 → (tally_blocks t bs).bytes ≤ 4294967295
 small_blocks t [] h = h

@@ -18,7 +18,7 @@ use Rattle.rules.specs.Units.{Base}
 use Rattle.rules.proofs.ResultLaws.{by_res}
 use Rattle.token_table.specs.Table.{tokens_in}
 use Rattle.token_table.specs.Parts.{before, place_or, parts_from, capped}
-use Rattle.token_table.proofs.FindLaws.{parts_all, parts_end, parts_next, found_inside, is_cut}
+use Rattle.token_table.proofs.FindLaws.{parts_all, parts_end, parts_next, found_inside, is_cut_lem}
 use Rattle.marks.specs.Marks.{added_if}
 use Rattle.marks.specs.declared.Marks.{Marks}
 use Rattle.read_names.specs.Names.{name_key}
@@ -144,7 +144,7 @@ pub kind_is : (ts : List ℕ) {k q : ℕ} → k ≡ 0 + before 6 (drop 0 ts) →
 kind_is ts {k} {q} f g cs e =
     let l = found_inside ts 0 6 f (omega arith) in
     let z : k - 0 ≡ k = omega arith in
-    sym (rw (← parts_all comma e cs ts, parts_next comma e cs ts 0 (omega arith) f refl, z, is_cut equals cs (take k ts) g, length-take-le k ts l))
+    sym (rw (← parts_all comma e cs ts, parts_next comma e cs ts 0 (omega arith) f refl, z, is_cut_lem equals cs (take k ts) g, length-take-le k ts l))
 
 -- ---- blocks
 

@@ -1,4 +1,6 @@
 // The command above its places: 6, 7, 8, block by block (15), and the running product of the orders (16).
+#![tactic(auto)]
+
 ghost use Rattle.std.specs.Prelude.{◌<◌, ◌≡◌, []};
 ghost use Rattle.rules.specs.Commands.{split, cut_at};
 ghost use Rattle.rules.specs.Reading.{read_places, read_block, read_blocks, read_segs, read_cut};
@@ -26,7 +28,7 @@ const BLOCK_FIELD: u64 = record_walk::LETTER_FIELD as u64;
 
 // What the places so far come to: their number, the bytes of the fields, the product of their numbers of arguments, whether the next one
 // would have passed the limit, and the place of the first value where it did.
-#[derive(Drop)]
+#[derive(Clone, Copy)]
 pub struct Tally {
     pub places: usize,
     pub bytes: u32,
@@ -36,14 +38,14 @@ pub struct Tally {
 }
 
 // Places or blocks that are right, with the tally after them. Or a refusal.
-#[derive(Drop)]
+#[derive(Clone, Copy)]
 pub enum Tallied {
     Fine(Tally),
     Refused { no: u8, place: u32 },
 }
 
 // A command that is right: the bytes of its record, the number of its orders, and that of its places. Or a refusal.
-#[derive(Drop)]
+#[derive(Clone, Copy)]
 pub enum Checked {
     Fine {
         bytes: u32,

@@ -1,4 +1,6 @@
 // A value's elements, one after the other: 14 and 15, and how many arguments there are.
+#![tactic(auto)]
+
 ghost use Rattle.std.specs.Prelude.{◌≡◌, false, cond, ◌≤◌, ◌<◌};
 ghost use Rattle.rules.specs.Groups.{elements, groups_of, collect};
 ghost use Rattle.rules.specs.Tokens.{sep_code, ampamp, ampamp_, plusplus};
@@ -12,7 +14,7 @@ use rules::{GROUP_BROKEN, MOST_ELEMENTS, MOST_LEADING, TOO_MANY};
 use token_table;
 
 // An element as a step of the walk: no refusal, or its number and place; the unit that begins the next element; the terms behind its first.
-#[derive(Drop)]
+#[derive(Clone, Copy)]
 pub struct Step {
     pub ok: bool,
     pub no: u8,
@@ -22,7 +24,7 @@ pub struct Step {
 }
 
 // A value's numbers of elements and of arguments, or what is wrong with it.
-#[derive(Drop)]
+#[derive(Clone, Copy)]
 pub enum Value {
     Elements { count: usize, args: u64 },
     Refused { no: u8, place: u32 },

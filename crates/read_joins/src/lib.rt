@@ -1,4 +1,6 @@
 // A value's part of the token table, unit by unit: the n-th unit is token 2n, the separator before it is token 2n - 1.
+#![tactic(auto)]
+
 ghost use Rattle.std.specs.Prelude.{◌≡◌, ◌≤◌};
 ghost use Rattle.read_joins.specs.Joins.{joins_in, join_kind, count as count_of, sep_kind, sep_place, unit_place, begins_kind};
 ghost use Rattle.read_joins.specs.Answers.{unit_end, end_at, with_lower, both_ends, step_end, ArgEnd, NoMore};
@@ -9,21 +11,21 @@ use units;
 use units::Word;
 
 // A unit as the end of a range: a numeral without fraction, by how many digits its base has and its value.
-#[derive(Drop)]
+#[derive(Clone, Copy)]
 pub enum End {
     Numeral { size: u8, value: u32 },
     Other,
 }
 
 // Both ends of a range, if they are numerals of one base.
-#[derive(Drop)]
+#[derive(Clone, Copy)]
 pub enum Ends {
     Both { size: u8, lower: u32, upper: u32 },
     Apart,
 }
 
 // An element: one argument, or a range of `more` terms behind its first; `next` is the unit that begins the next element.
-#[derive(Drop)]
+#[derive(Clone, Copy)]
 pub enum Shape {
     Single {
         next: usize,

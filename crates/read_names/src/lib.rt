@@ -1,4 +1,6 @@
 // Names on the token table: does a place's name stand already among the places of its block before it?
+#![tactic(auto)]
+
 ghost use Rattle.std.specs.Prelude.{◌≡◌, true};
 ghost use Rattle.laws.specs.Lists.{eq_l};
 ghost use Rattle.rules.specs.Commands.{same_name};

@@ -1,6 +1,6 @@
 -- The loop over pieces: at every turn the rest of the tokens has the verdict of the whole, by the rule's own clauses.
 use Prim.Native.Nat.{ℕ, zero, suc, ◌+◌, ◌-◌, ◌≤◌, ◌<◌}
-use mathlib.Core.Path.{◌≡◌, refl, sym, ◌∙◌}
+use mathlib.Core.Path.{◌≡◌, refl, sym, ◌∙◌, subst}
 use mathlib.Core.Bool.{Bool, true, false, false≢true}
 use mathlib.Core.List.{List, [], ◌∷◌}
 use mathlib.Core.Option.{none, some}
@@ -86,7 +86,12 @@ dash_yes : (left nr : ℕ) (x nm : Bool) (cs : List ℕ) (t : ℕ) (ts : List �
     → pieces nr (test x) (test nm) left false (tokens_in cs (t ∷ ts)) e ≡ pieces nr (test nm) (test nm) (left - 1) true (tokens_in cs ts) e
 unfolding dash_test
 dash_yes zero nr x nm cs t ts e h = absurd (false≢true h)
-dash_yes (suc n) nr x nm cs t ts e h = let q : suc n - 1 ≡ n = omega arith in rw (q, dash_kind (kind_in t) (content_in cs t) ∙ h, pieces)
+dash_yes (suc n) nr x nm cs t ts e h =
+    let q : n ≡ suc n - 1 = omega arith in
+    subst
+    (λ m. pieces nr (test x) (test nm) (suc n) false (tokens_in cs (t ∷ ts)) e ≡ pieces nr (test nm) (test nm) m true (tokens_in cs ts) e)
+    q
+    (rw (dash_kind (kind_in t) (content_in cs t) ∙ h, pieces))
 
 dash_no : (left nr : ℕ) (x nm : Bool) (cs : List ℕ) (t : ℕ) (ts : List ℕ) (e : ℕ) → dash_test left t ≡ false
     → pieces nr (test x) (test nm) left false (tokens_in cs (t ∷ ts)) e ≡ bad nr (place_in t)

@@ -1,4 +1,6 @@
 // Pieces joined by `-`: the code (8) and a name (10).
+#![tactic(auto)]
+
 ghost use Rattle.std.specs.Prelude.{◌≡◌, true, false};
 ghost use Rattle.rules.specs.Commands.{is_index_number};
 ghost use Rattle.read_pieces.specs.Pieces.{test, piece_test, dash_test, pieces_at};

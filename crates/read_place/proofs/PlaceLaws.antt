@@ -9,7 +9,7 @@ use mir.Syntax.{w32}
 use mir.Val.{Fits}
 use lib.ListN.{length, get_or, take, drop, length-append}
 use lib.Seq.{take-nil}
-use Rattle.rules.proofs.ReadSteps.{named_read, place_read, value_read_lem}
+use Rattle.rules.proofs.ReadSteps.{named_read, place_read as place_read_lem, value_read_lem}
 use Rattle.laws.specs.Over.{part_from}
 use Rattle.laws.specs.Lists.{any, is_nil}
 use Rattle.rules.specs.Commands.{Name, same_name, Element, Place, place, place_name, sum, terms, value_count, first, seg, cut_at, is_cut, pieces, is_piece}
@@ -27,7 +27,7 @@ use Rattle.token_table.proofs.AltLaws.{verdict_ok, verdict_bad}
 use Rattle.token_table.specs.declared.Verdict.{Verdict}
 use Rattle.token_table.specs.declared.Verdict.TheVariants.{Fine as Good, Refused as Wrong}
 use Rattle.token_table.specs.Parts.{before, place_or, words_in, words_size, capped}
-use Rattle.token_table.proofs.FindLaws.{first_place, cut_at_lem, cut_none, is_cut}
+use Rattle.token_table.proofs.FindLaws.{first_place, cut_at_lem, cut_none, is_cut_lem}
 use Rattle.token_table.proofs.WordLaws.{pieces_words, words_bytes, cap_cap}
 use Rattle.marks.specs.declared.Marks.{Marks}
 use Rattle.read_names.specs.Names.{name_key, name_in, Known, IsTwice}
@@ -209,11 +209,11 @@ module _ (us ts cs : List ℕ) (bs : List Base) (k : Bool) (n : ℕ) (m : Marks)
 
   pub place_cut : {q : ℕ} {r : PlaceRead} → n < 32 → q ≡ 0 + before 8 (drop 0 ts) → q < length ts → k ≡ false → r ≡ Refused 9 (place_or ts e)
       → r ≡ place_read (read_place k bs n ns (seg (tokens_in cs ts) e))
-  place_cut {q} h f l z g = g ∙ rw (lt-ltb n 32 h, is_cut equals cs ts f, lt-ltb q (length ts) l, z, first_place cs ts e)
+  place_cut {q} h f l z g = g ∙ rw (lt-ltb n 32 h, is_cut_lem equals cs ts f, lt-ltb q (length ts) l, z, first_place cs ts e)
 
   pub place_uncut : {q : ℕ} {r : PlaceRead} → n < 32 → q ≡ 0 + before 8 (drop 0 ts) → length ts ≤ q → k ≡ true → r ≡ Refused 9 (place_or ts e)
       → r ≡ place_read (read_place k bs n ns (seg (tokens_in cs ts) e))
-  place_uncut {q} h f l z g = g ∙ rw (lt-ltb n 32 h, is_cut equals cs ts f, le-ltb q (length ts) l, z, first_place cs ts e)
+  place_uncut {q} h f l z g = g ∙ rw (lt-ltb n 32 h, is_cut_lem equals cs ts f, le-ltb q (length ts) l, z, first_place cs ts e)
 
   pub place_named : {q : ℕ} {r : PlaceRead} → KnownIf k cs us m ns → n < 32 → q ≡ 0 + before 8 (drop 0 ts) → q < length ts → k ≡ true
       → ReadsNamed (get_or bs n (plain r_d)) cs us ts q m e r → r ≡ place_read (read_place k bs n ns (seg (tokens_in cs ts) e))
@@ -238,8 +238,8 @@ name_read ts cs bs n e ns p x h =
     let q : ℕ = before (sep_code equals) ts in
     let f : q ≡ 0 + before (sep_code equals) (drop 0 ts) = omega arith in
     let b : Base = get_or bs n (plain r_d) in
-    let r = place_read true bs n ns (tokens_in cs ts) e (placed p x) h in
-    let l : q < length ts = ltb-true q (length ts) (sym (is_cut equals cs ts f) ∙ agreed (is_cut (cut_at equals (tokens_in cs ts))) r.agrees) in
+    let r = place_read_lem true bs n ns (tokens_in cs ts) e (placed p x) h in
+    let l : q < length ts = ltb-true q (length ts) (sym (is_cut_lem equals cs ts f) ∙ agreed (is_cut (cut_at equals (tokens_in cs ts))) r.agrees) in
     let o : ℕ = place_in (get_or ts q 0) in
     let m = named_read b ns (tokens_in cs (take q ts)) o (tokens_in cs (drop (q + 1) ts)) e (placed p x) (rw (cut_at_lem equals cs ts f l) at r.read) in
     let w : place_name x ≡ m.name = ap (λ (t : Placed). place_name (unplaced t)) (sym m.is) in

@@ -1,4 +1,6 @@
 // One place of a command: 15, 9, its name (10, 21), its value (11 to 16), and the bytes of its fields.
+#![tactic(auto)]
+
 ghost use Rattle.std.specs.Prelude.{◌<◌, ◌≡◌, length};
 ghost use Rattle.rules.specs.Groups.{read_value};
 ghost use Rattle.rules.specs.Reading.{read_position};
@@ -25,7 +27,7 @@ const PLACE_FIELD: u32 = record_walk::LETTER_FIELD as u32;
 const NO_NAME: u32 = 0;
 
 // A place that is right: its number of arguments, the place of its value's first token, the bytes of its fields, the key of its name. Or a refusal.
-#[derive(Drop)]
+#[derive(Clone, Copy)]
 pub enum PlaceRead {
     Fine {
         args: u32,

@@ -1,4 +1,6 @@
 // A value, in passes: 11, then 12 and 13, then 14 with 15, then 16.
+#![tactic(auto)]
+
 ghost use Rattle.std.specs.Prelude.{◌≡◌, ◌<◌, length};
 ghost use Rattle.read_value.specs.Passes.{word_verdict, unit_verdict, units_verdict, limited, grouped_answer, Reads};
 

@@ -41,7 +41,7 @@ use Rattle.scan.specs.declared.Filled.{Filled}
 use Rattle.scan.specs.declared.Filled.TheVariants.{Done as Filling, Refused as NotFilled}
 use Rattle.scan.specs.Filled.{Holds, IsFilled}
 use Rattle.index.specs.Rows.{Indexable, Fills, Recorded}
-use Rattle.index.proofs.CallLaws.{no_room, no_slots_lem, both_fit, without_row, row_refused as refused-row, row_cut as cut-row, row_fits as fits-row, row_done as done-row}
+use Rattle.index.proofs.CallLaws.{no_room_lem, no_slots_lem, both_fit, without_row, row_refused as refused-row, row_cut as cut-row, row_fits as fits-row, row_done as done-row}
 use Rattle.reader.specs.Reader.{TokensOf, command_of, Records, RecordsText, ReadsFor}
 
 -- ---- results
@@ -89,7 +89,7 @@ module _ (ts cs ls : List ℕ) (n slots : ℕ) (old : List ℕ) where
 
     -- 17
     pub tokens_short : length old < z → Records ts cs ls n slots old (Refused 17 z) old
-    tokens_short s = rw right.is (no_room right.c slots old right.size s)
+    tokens_short s = rw right.is (no_room_lem right.c slots old right.size s)
 
     pub tokens_slots : Fits w32 m
     tokens_slots = omega (arith, right.few)

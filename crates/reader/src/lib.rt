@@ -1,5 +1,7 @@
 // The reader: a command's text into its record, and the offsets of its places into a row, or a refusal with its number and place. Nothing is written
 // before every refusal is excluded. Who wants no row is read for as many slots as there can be places.
+#![tactic(auto)]
+
 ghost use Rattle.std.specs.Prelude.{◌≤◌, ◌≡◌, length, take};
 ghost use Rattle.rules.specs.Answers.{Reads, ReadsRow};
 ghost use Rattle.rules.specs.Refusals.{most_text};

@@ -12,7 +12,7 @@ use Rattle.rules.specs.Tokens.{State, idle, in_word, in_plus, one_amp, two_amp}
 use Rattle.chars.specs.Classes.{class_of, effector_class}
 use Rattle.chars.proofs.ClassLaws.{effector_yes, effector_no, is_word, is_effector_lem, is_plus, is_amp, is_dash, is_comma, is_colon, is_equals, is_semi, is_slash, is_mark}
 use Rattle.scan.specs.Along.{run_at, Skips, Skipped}
-use Rattle.scan.proofs.RunLaws.{stayed, inside}
+use Rattle.scan.proofs.RunLaws.{stayed}
 
 module _ (c : ℕ) (e : is_effector c ≡ true) where
   its_class : class_of c ≡ effector_class

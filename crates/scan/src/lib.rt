@@ -1,6 +1,8 @@
 // A text into its tokens. The stretches of a text (a gap, a word, a string, a separator that begins with `&`), each with a promise of what the
 // rules' automaton does over it; the cursor, which reads one token after the other (4, 5, and 15 for words and strings); and the whole
 // text (2, 3, then what the cursor finds), as a table of tokens with their contents one behind the other.
+#![tactic(auto)]
+
 ghost use Rattle.std.specs.Prelude.{◌≡◌, ◌+◌, ◌<◌, ◌≤◌, length, get_or, [], ◌∷◌};
 ghost use Rattle.chars.specs.Classes.{table};
 ghost use Rattle.scan.specs.Along.{Skipped, IsComment, IsWord, IsString, IsAmp, IsGap, run_at, Begins};
@@ -39,7 +41,7 @@ pub fn skip(text: &[u8], classes: &[u8; 128], from: usize) -> usize
 }
 
 // Where a comment ends, behind its closing bytes; or nowhere.
-#[derive(Drop)]
+#[derive(Clone, Copy)]
 enum CommentEnd {
     At(usize),
     Nowhere,
@@ -64,7 +66,7 @@ fn comment(text: &[u8], from: usize) -> CommentEnd
 }
 
 // How many bytes a word has, format effectors not counted, and where it ends.
-#[derive(Drop)]
+#[derive(Clone, Copy)]
 struct WordEnd {
     len: usize,
     end: usize,
@@ -102,7 +104,7 @@ fn word(text: &[u8], classes: &[u8; 128], first: u8, from: usize, out: &mut [u8]
 }
 
 // How many bytes a string's content has and where the string ends; or it does not end.
-#[derive(Drop)]
+#[derive(Clone, Copy)]
 enum StringEnd {
     Closed { len: usize, end: usize },
     Open,
@@ -135,7 +137,7 @@ fn string(text: &[u8], from: usize, out: &mut [u8]) -> StringEnd
 }
 
 // A separator that begins with `&`: its kind, and where it ends.
-#[derive(Drop)]
+#[derive(Clone, Copy)]
 struct AmpEnd {
     kind: u8,
     end: usize,
@@ -174,7 +176,7 @@ fn ampersand(text: &[u8], classes: &[u8; 128], from: usize) -> AmpEnd
 }
 
 // What stands behind a gap: a byte that begins a token, with its class; the end of the text; or a refusal.
-#[derive(Drop)]
+#[derive(Clone, Copy)]
 enum Gap {
     Start { at: usize, class: u8 },
     End,
@@ -214,13 +216,13 @@ fn begin(text: &[u8], classes: &[u8; 128], from: usize) -> Gap
 }
 
 // A place in the text that no token is in the midst of.
-#[derive(Drop)]
+#[derive(Clone, Copy)]
 struct Cursor {
     at: usize,
 }
 
 // The next token and the cursor behind it; the end of the text; or a refusal.
-#[derive(Drop)]
+#[derive(Clone, Copy)]
 enum Scanned {
     Token {
         place: usize,
@@ -382,7 +384,7 @@ impl Cursor {
 }
 
 // How many tokens the table holds, and how many bytes their contents take; or a refusal.
-#[derive(Drop)]
+#[derive(Clone, Copy)]
 pub enum Filled {
     Done { tokens: usize, bytes: usize },
     Refused { no: u8, place: usize },

@@ -108,8 +108,8 @@ module _ (s : Sep) (cs : List ℕ) where
       let z : before (sep_code s) ts ≡ k = omega arith in
       cut_first ts ∙ rw (z, drop_of_length-le ts h)
 
-  pub is_cut : (ts : List ℕ) {k : ℕ} → k ≡ 0 + before (sep_code s) (drop 0 ts) → is_cut (cut_at s (tokens_in cs ts)) ≡ ltb k (length ts)
-  is_cut ts {k} e =
+  pub is_cut_lem : (ts : List ℕ) {k : ℕ} → k ≡ 0 + before (sep_code s) (drop 0 ts) → is_cut (cut_at s (tokens_in cs ts)) ≡ ltb k (length ts)
+  is_cut_lem ts {k} e =
       by_bool (ltb k (length ts))
       (λ y. rw (y, cut_at_lem ts e (ltb-true k (length ts) y)))
       (λ y. rw (y, cut_none ts e (ltb-false k (length ts) y)))

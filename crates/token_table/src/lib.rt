@@ -1,5 +1,7 @@
 // The token table: a token is one number that holds its kind, its place in the text, and where its content starts in the contents and its
 // length; the tokens up to a separator, and the words of a code or of a name.
+#![tactic(auto)]
+
 ghost use Rattle.std.specs.Prelude.{◌<◌, ◌+◌, ◌≡◌, true, length, drop};
 ghost use Rattle.token_table.specs.Table.{kind_in, place_in, start_in, end_in, packed, fits_kind, Alternates, content_in};
 ghost use Rattle.token_table.specs.Parts.{before, place_or, capped, words_size, words_in};
@@ -46,7 +48,7 @@ const MOST: u64 = 4294967295;
 const HEAD: u64 = record_walk::HEADER as u64;
 
 // Nothing wrong, or a refusal's number and place.
-#[derive(Drop)]
+#[derive(Clone, Copy)]
 pub enum Verdict {
     Fine,
     Refused { no: u8, place: u32 },

@@ -1,5 +1,7 @@
 // The fields of a value without fault: how many bytes they take, and the same bytes written. Each writer is lent the buffer from its start
 // position, and says all bytes of it.
+#![tactic(auto)]
+
 ghost use Rattle.std.specs.Prelude.{◌≡◌, cond, eqb, length, ◌+◌, ◌≤◌, ◌<◌, ◌++◌};
 ghost use Rattle.rules.specs.Tokens.{sep_code, amp_};
 ghost use Rattle.read_joins.specs.Joins.{count};

@@ -1,0 +1,10 @@
+-- `is_dash` meets its contract: its tests are those of the definition.
+use Rattle.read_pieces.proofs.PieceLaws.{dash_none, dash_some}
+use borrow.Author.Rules.{rules}
+use Rattle.read_pieces.proofs.is_dash.Goals as goal
+
+pub returns-then-left-eq0 : goal.returns-then-left-eq0
+returns-then-left-eq0 c = search (rules, dash_none)
+
+pub returns : goal.returns
+returns c = search (rules, dash_some)

@@ -1,0 +1,28 @@
+-- `begin` meets its contract: each turn passes over a format effector or a comment.
+use borrow.Author.Rules.{rules}
+use Rattle.scan.proofs.GapLaws.{gap_none, gap_skip, gap_four, gap_less, gap_over, gap_five, gap_start, gap_end}
+use Rattle.scan.proofs.begin.Goals as goal
+
+pub loop-i-init : goal.loop-i-init
+loop-i-init c = search (rules, gap_none)
+
+pub loop-i-preserved-then-k-eq-EFFECTOR : goal.loop-i-preserved-then-k-eq-EFFECTOR
+loop-i-preserved-then-k-eq-EFFECTOR c = search (rules, gap_skip)
+
+pub returns-in_default : goal.returns-in_default
+returns-in_default c = search (rules, gap_four)
+
+pub loop-i-smaller : goal.loop-i-smaller
+loop-i-smaller c = search (rules, gap_less)
+
+pub loop-i-preserved : goal.loop-i-preserved
+loop-i-preserved c = search (rules, gap_over)
+
+pub returns-else-byte-eq42 : goal.returns-else-byte-eq42
+returns-else-byte-eq42 c = search (rules, gap_five)
+
+pub returns-else-k-eq-SLASH : goal.returns-else-k-eq-SLASH
+returns-else-k-eq-SLASH c = search (rules, gap_start)
+
+pub returns : goal.returns
+returns c = search (rules, gap_end)

@@ -1,0 +1,11 @@
+-- `fill` meets its contract: after every token the table holds what the automaton gave so far, and the rest of the text gives the rest.
+use lib.ListN.{length}
+use Prim.Native.Nat.{◌-◌}
+use Rattle.scan.proofs.FillLaws.{Filling}
+use Rattle.scan.proofs.fill.Given as goal
+
+abbrev pub invariant-loop-place : goal.invariant-loop-place
+invariant-loop-place l = Filling l.text l.initial.toks l.initial.contents l.toks l.contents l.cursor.at l.t l.k
+
+abbrev pub decreases-loop-place : goal.decreases-loop-place
+decreases-loop-place l = length l.text - l.cursor.at

@@ -1,0 +1,11 @@
+-- `string` meets its contract: each turn is a step of the automaton in the string, and what is stored is what it has gathered.
+use lib.ListN.{length}
+use Prim.Native.Nat.{◌-◌}
+use Rattle.scan.proofs.StringLaws.{Stringing}
+use Rattle.scan.proofs.string.Given as goal
+
+abbrev pub invariant-loop-i : goal.invariant-loop-i
+invariant-loop-i l = Stringing l.text l.from l.initial.out l.out l.n l.i
+
+abbrev pub decreases-loop-i : goal.decreases-loop-i
+decreases-loop-i l = length l.text - l.i
