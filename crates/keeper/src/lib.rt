@@ -1,4 +1,6 @@
 // M-100: the line keeper, a key at a time.
+#![tactic(auto)]
+
 ghost use Rattle.std.specs.Prelude.{◌≡◌, ◌+◌, ◌-◌, ◌≤◌, ◌<◌, length, get_or, take};
 ghost use Rattle.laws.specs.Cases.{pick};
 ghost use Rattle.rules.specs.Refusals.{ok, bad, no_key, most_text};
@@ -20,7 +22,7 @@ const END: u8 = b';';
 
 // Where the byte behind a line's bytes would stand: outside string and comment; there, behind a `/`; in a comment; there, behind a `*`;
 // in a string.
-#[derive(Drop)]
+#[derive(Clone, Copy)]
 pub enum Spot {
     Outside,
     Slashed,

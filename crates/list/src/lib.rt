@@ -1,4 +1,6 @@
 // The whole list of a record's orders on one buffer, each behind its length: an argument of each place's value moves like an odometer, the last place fastest. The direct rule of an order is not used.
+#![tactic(auto)]
+
 ghost use Rattle.std.specs.Prelude.{◌≡◌, ◌∷◌, ◌≤◌, ◌<◌, length, take, drop};
 ghost use Rattle.laws.specs.Over.{over};
 ghost use Rattle.rules.specs.Refusals.{ok};

@@ -8,7 +8,7 @@ use borrow.Author.Tests.{le-leb, lt-leb, leb-true, leb-false}
 use lib.Dec.{leb}
 use lib.ListN.{length, length-append, length-map}
 use Rattle.laws.specs.Cases.{by_bool, and_l, and_r, conjuncts}
-use Rattle.laws.specs.Lists.{all, concat}
+use Rattle.laws.specs.Lists.{concat}
 use Rattle.rules.specs.Units.{Base, num}
 use Rattle.rules.specs.Commands.{Element, single, range}
 use Rattle.rules.specs.Records.{bytes_of, element_fields, num4}

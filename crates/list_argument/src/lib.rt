@@ -1,4 +1,6 @@
 // The arguments of a value in a record, one behind the other, as they are written: the first, the next, and how many bytes all of them take. Nothing is counted: a range steps by its increment.
+#![tactic(auto)]
+
 ghost use Rattle.std.specs.Prelude.{◌≡◌, List, length};
 ghost use Rattle.laws.specs.Lists.{concat};
 ghost use Rattle.rules.specs.Commands.{Element};
@@ -6,7 +8,7 @@ ghost use Rattle.record_walk.specs.Values.{Holds, Value};
 ghost use Rattle.list_argument.specs.Standings.{choices_of, Argument, IsFirst, IsNext, first_term, goes_on};
 
 // Where an argument stands: the element that names it, and which of a range's terms it is.
-#[derive(Drop)]
+#[derive(Clone, Copy)]
 pub struct Standing {
     pub start: usize,
     pub end: usize,

@@ -1,4 +1,6 @@
 // Where an argument stands among the arguments of a record's place: elements are passed over by their numbers of terms, and in a range the position is a quotient. No group is unrolled.
+#![tactic(auto)]
+
 ghost use Rattle.std.specs.Prelude.{◌≡◌, true, ◌≤◌, length};
 ghost use Rattle.rules.specs.Units.{base_at};
 ghost use Rattle.rules.specs.Positions.{is_given};

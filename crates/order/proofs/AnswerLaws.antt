@@ -26,7 +26,7 @@ use Rattle.rules.proofs.ResultLaws.{ok_inj}
 use Rattle.rules.proofs.RowCalls.{order_well}
 use Rattle.rules.proofs.RowPoints.{offsets_many}
 use Rattle.index.specs.Rows.{Indexable, Fills, Recorded}
-use Rattle.index.proofs.CallLaws.{no_room, no_slots_lem, both_fit, Sound, without_row, row_refused as refused-row, row_cut as cut-row, row_fits as fits-row, row_done as done-row}
+use Rattle.index.proofs.CallLaws.{no_room_lem, no_slots_lem, both_fit, Sound, without_row, row_refused as refused-row, row_cut as cut-row, row_fits as fits-row, row_done as done-row}
 use Rattle.judge.specs.Judged.{per_place, row_length, blocks_of, IsGood, Judges, Told as Spans}
 use Rattle.judge.specs.declared.Judged.{Judged}
 use Rattle.judge.specs.declared.Judged.TheVariants.{Good, Bad}
@@ -47,7 +47,7 @@ order_slots (command c bs) k h e =
 -- 17, of the record and of the row, or both fit
 module _ {rec row : List ℕ} (f : Planned rec row) (slots : ℕ) (old : List ℕ) where
   pub put_short : {n : ℕ} → n ≡ length (order_bytes rec (positions_in row)) → length old < n → PutsOrder rec row slots old (Refused no_room n) old
-  put_short e h c w p = no_room c slots old (e ∙ ap length w) h
+  put_short e h c w p = no_room_lem c slots old (e ∙ ap length w) h
 
   module _ (room : length (order_bytes rec (positions_in row)) ≤ length old) where
     pub put_few : slots < length row / per_place → PutsOrder rec row slots old (Refused no_room (length row / per_place)) old

@@ -1,6 +1,8 @@
 // Order k of a record by the direct rule, over the judge's row and from behind the record's head: each place's position, from the last place back; the length; the bytes, and the offsets of
 // its places into a lent row. Who wants no offsets has as many slots as there can be places. `put_order` has two callers, so it stays a function of its own, and its frame does not
 // stand on the stack while the record is judged.
+#![tactic(auto)]
+
 ghost use Rattle.std.specs.Prelude.{◌≡◌, ◌≤◌, length, replicate};
 ghost use Rattle.laws.specs.Over.{over};
 ghost use Rattle.rules.specs.Answers.{Orders, OrdersRow};
@@ -21,7 +23,7 @@ const KEPT: u16 = rules::MOST_ARGUMENTS as u16;
 const SOLE: u32 = 1;
 
 // What order k is: so many numbers of the row tell the positions of its places. Or the refusal.
-#[derive(Drop)]
+#[derive(Clone, Copy)]
 enum Found {
     Told(usize),
     Refused { no: u8, place: u32 },

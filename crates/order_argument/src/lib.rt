@@ -1,4 +1,6 @@
 // An argument of a value in a record: found by its position in the value, measured, and written as a single element.
+#![tactic(auto)]
+
 ghost use Rattle.std.specs.Prelude.{◌≡◌, true, ℕ, ◌-◌, ◌/◌, ◌≤◌, length};
 ghost use Rattle.laws.specs.Over.{over};
 ghost use Rattle.record_walk.specs.Runs.{Whole};
@@ -8,7 +10,7 @@ ghost use Rattle.order_argument.specs.Terms.{is_range, more_terms, term_value, t
 const SHORTEST_RANGE: usize = record_walk::RANGE_FIELD + record_walk::NUMERAL_FIELD;
 
 // Where in a value an argument is: the element that names it, and which of the element's terms it is, from 0.
-#[derive(Drop)]
+#[derive(Clone, Copy)]
 pub struct Argument {
     pub start: usize,
     pub end: usize,

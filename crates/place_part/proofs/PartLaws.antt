@@ -1,5 +1,5 @@
 -- The call's answer: where the row is right a slot is the place's offset, its fields stand there in the record and nothing else of their tags behind them, so their end is found.
-use mathlib.Core.Path.{◌≡◌, refl, sym, ap, ◌∙◌, subst}
+use mathlib.Core.Path.{◌≡◌, sym, ap, ◌∙◌, subst}
 use mathlib.Core.Bool.{false}
 use mathlib.Core.List.{List, []}
 use denote.Ref.{Bor}
@@ -10,7 +10,7 @@ use lib.Dec.{leb}
 use lib.ListN.{length, get_or, take, drop}
 use Rattle.rules.specs.declared.Answer.{Answer}
 use Rattle.rules.specs.declared.Answer.TheVariants.{Done, Refused}
-use Rattle.rules.specs.Refusals.{ok, bad, not_well_formed, wrong_row, no_such_place}
+use Rattle.rules.specs.Refusals.{ok, not_well_formed, wrong_row, no_such_place}
 use Rattle.rules.specs.Commands.{Place, Command, command, all_places}
 use Rattle.rules.specs.Records.{encode}
 use Rattle.rules.specs.WellFormed.{record_of}

@@ -1,4 +1,6 @@
 // The call for a place by its row: 18, 28, 26, and that place's fields as part of the record itself.
+#![tactic(auto)]
+
 ghost use Rattle.std.specs.Prelude.{◌<◌, ◌≡◌, length, get_or};
 ghost use Rattle.rules.specs.Answers.{Places, HandsBack};
 

@@ -243,6 +243,11 @@ module _ {rec : List ℕ} {at base sum : ℕ} (b : Bounding rec at base sum) whe
         rw (← add-zero sum) (past 3 base 0 (omega arith) (rw t) (rw t) (omega arith))
 
     -- a place
+    pub place_base : get_or rec at 0 ≡ place_tag → at + 3 < length rec
+    place_base e =
+        let one = sized_by here place_tag 1 e (λ w. refl) in
+        omega (arith, one, ends here)
+
     pub place_turn : get_or rec at 0 ≡ place_tag → Bounding rec (at + 4) (get_or rec (at + 3) 0) (sum + 1)
     place_turn e =
         let t : here.t ≡ place_tag = sym (tag_is here) ∙ e in

@@ -1,5 +1,7 @@
 // The printer's bound: at most so many bytes a well-formed record's text has, in one pass over the fields behind its head. It is no measure of the text: it tells
 // early that most texts fit.
+#![tactic(auto)]
+
 ghost use Rattle.std.specs.Prelude.{◌≡◌, true, ◌+◌};
 ghost use Rattle.rules.specs.WellFormed.{well_formed_body};
 ghost use Rattle.record_walk.specs.Fields.{length_at};

@@ -1,5 +1,7 @@
 // The text of a record that is known to be well formed, from behind its head: code, blocks, places. Each writer is lent the buffer from its start position, and says every byte
 // of it; beside each stands the function that only measures.
+#![tactic(auto)]
+
 ghost use Rattle.std.specs.Prelude.{◌≡◌, true, ◌+◌, ◌^◌, ◌≤◌, ◌<◌, length};
 ghost use Rattle.laws.specs.Over.{over};
 ghost use Rattle.rules.specs.WellFormed.{well_formed_body};

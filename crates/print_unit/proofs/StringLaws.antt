@@ -83,6 +83,9 @@ pub string_len : (w : List ℕ) → length (string_text w) ≡ length (doubled_a
 unfolding string_text
 string_len w = simp length-append (omega arith)
 
+pub string_fits : (w : List ℕ) {room : ℕ} → length (string_text w) ≤ room → length (doubled_at w 0) + 2 ≤ room
+string_fits w h = omega (arith, string_len w)
+
 pub string_put : (w old : List ℕ) {q : ℕ} {xs ys zs : List ℕ} → xs ≡ over (byte "\"" ∷ []) old → Puts (doubled_at w 0) (part xs 1) q ys
     → zs ≡ over (byte "\"" ∷ []) (part (back xs 1 ys) (1 + q)) → Puts (string_text w) old (1 + q + 1) (back (back xs 1 ys) (1 + q) zs)
 unfolding string_text

@@ -51,12 +51,26 @@ pub numeral_len : (b l f v : ℕ) → length (numeral_text b l f v) ≡ length (
 unfolding numeral_text
 numeral_len b l f v = length-append (prefix_of b l) (number_text l f v)
 
+-- with the number before the full stop named, there is room for the three pieces
+pub part_fits : (k b n : ℕ) {m room : ℕ} → m ≡ n / b ^ k → length (part_text k b n) ≤ room → length (whole b m) + 1 + k ≤ room
+part_fits k b n e h = omega (arith, part_length k b n e)
+
+-- there is room for the number behind the prefix
+pub numeral_fits : (b l f v : ℕ) {p room : ℕ} → p ≡ length (prefix_of b l) → length (numeral_text b l f v) ≤ room → p + length (number_text l f v) ≤ room
+numeral_fits b l f v e h = omega (arith, numeral_len b l f v)
+
+pub whole_fits : (b l v : ℕ) {p s room : ℕ} → p ≡ length (prefix_of b l) → s ≡ size_at l → length (numeral_text b l 0 v) ≤ room → p + length (whole s v) ≤ room
+whole_fits b l v e q h = omega (arith, numeral_len b l 0 v, ap length (is_whole l 0 v q refl))
+
 pub prefix_room : (b l f v : ℕ) {room : ℕ} → length (numeral_text b l f v) ≤ room → length (prefix_of b l) ≤ room
 prefix_room b l f v h = omega (arith, numeral_len b l f v)
 
 pub keyed_len : (b : ℕ) (w : List ℕ) → length (keyed_text b w) ≡ length (prefix_of b (byte "K")) + length w
 unfolding keyed_text
 keyed_len b w = length-append (prefix_of b (byte "K")) w
+
+pub keyed_fits : (b : ℕ) (w : List ℕ) {room : ℕ} → length (keyed_text b w) ≤ room → length (prefix_of b (byte "K")) + length w ≤ room
+keyed_fits b w h = omega (arith, keyed_len b w)
 
 -- ---- the rules' text
 

@@ -1,7 +1,8 @@
 -- The field tells what the unit is: the text of the bytes is the rules' text of the unit, and a decimal numeral below ten is its digit.
 use Prim.Native.Nat.{◌%◌, ◌*◌, ◌+◌, ◌/◌, ◌<◌, ◌^◌, ◌≤◌, suc, zero, ℕ}
 use borrow.Author.Tests.{eq-eqb, leb-true, lt-ltb, ne_eqb}
-use lib.ListN.{get_or, length}
+use lib.ListN.{get_or, length, set}
+use lib.Seq.{sets-eq}
 use mathlib.Core.Bool.{true}
 use mathlib.Core.List.{List, [], ◌∷◌}
 use mathlib.Core.Path.{◌∙◌, ◌≡◌, ap, refl, subst}
@@ -12,7 +13,7 @@ use Rattle.rules.specs.Characters.{byte}
 use Rattle.rules.specs.Printing.{digit_char, unit_text}
 use Rattle.rules.specs.Records.{field, field_bytes, identifier_tag, keyed_tag, num4, numeral_tag, string_tag, symbolic_tag, unit_field}
 use Rattle.rules.specs.Refusals.{most_fraction, most_string, most_word}
-use Rattle.rules.specs.Units.{Base, Radix, Unit, identifier, keyed, letter, num, numeral, symbolic, text}
+use Rattle.rules.specs.Units.{Base, Radix, Unit, identifier, keyed, letter, num, symbolic, text}
 use Rattle.rules.specs.WellFormed.{ok_fraction, wf_unit}
 use Rattle.digits.proofs.DigitLaws.{whole_one}
 use Rattle.record_walk.proofs.FrontLaws.{Small}
@@ -99,3 +100,12 @@ one_digit_lem p {v = v} s d e m q k h =
     let l : get_or p 3 0 ≡ 68 = omega (arith, s 2, s 3, s 4, s 5) in
     let f : get_or p 4 0 ≡ 0 = omega (arith, s 2, s 3, s 4, s 5) in
     rw d (as_numeral (byte "D") p e k ∙ rw (l, f) (is_whole (byte "D") 0 v refl refl ∙ whole_one 10 v h ∙ ap (λ (n : ℕ). n ∷ []) (low_digit v h)))
+
+-- .. so there is room for it, and it is what is written
+module _ {p : List ℕ} {base v n : ℕ} (s : Small p) (d : base ≡ byte "D") (e : get_or p 0 0 ≡ numeral_tag) (m : n ≡ num4 p 2) (q : n ≡ 105119744)
+    (k : v ≡ num4 p 5) (h : v < 10) where
+  pub digit_room : {room : ℕ} → UnitFits p base room → 0 < room
+  digit_room f = omega (arith, (any_fits refl f).1, ap length (one_digit_lem p s d e m q k h))
+
+  pub digit_put : (old : List ℕ) → UnitFits p base (length old) → PutUnit p base old 1 (set old 0 (48 + v))
+  digit_put old f = put_is refl p old (rw (one_digit_lem p s d e m q k h) (refl, sets-eq ((48 + v) ∷ []) old 0 (digit_room f)))

@@ -1,5 +1,7 @@
 // A unit as text under its place's base, written over the start of a lent buffer: a numeral's prefix, digits and full stop; a string between its marks,
 // each mark inside doubled; other characters as they are.
+#![tactic(auto)]
+
 ghost use Rattle.std.specs.Prelude.{◌≡◌, ◌/◌, ◌^◌, ◌≤◌, ◌<◌, length};
 ghost use Rattle.laws.specs.Over.{over};
 ghost use Rattle.print_unit.specs.Texts.{prefix_of, part_text, number_text, numeral_text, keyed_text};

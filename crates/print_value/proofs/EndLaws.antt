@@ -24,6 +24,10 @@ pub range_len : (base l : ℕ) (c : Bool) (up inc : ℕ)
 unfolding range_end
 range_len base l c up inc = simp length-append
 
+pub range_fits : (base l : ℕ) (c : Bool) (up inc : ℕ) {room : ℕ} → length (range_end base l c up inc) ≤ room
+    → length (through_text c) + length (numeral_text base l 0 up) + length (increment_text base l inc) ≤ room
+range_fits base l c up inc h = omega (arith, range_len base l c up inc)
+
 pub range_put : (base l : ℕ) (c : Bool) (up inc : ℕ) (old : List ℕ) {p q r : ℕ} {xs ys zs : List ℕ} → Puts (through_text c) old p xs
     → Puts (numeral_text base l 0 up) (part xs p) q ys → Puts (increment_text base l inc) (part (back xs p ys) (p + q)) r zs
     → Puts (range_end base l c up inc) old (p + q + r) (back (back xs p ys) (p + q) zs)
@@ -31,6 +35,10 @@ unfolding range_end
 range_put base l c up inc old x y z =
     let U : List ℕ = numeral_text base l 0 up in
     both_put (through_text c ++ U) (increment_text base l inc) old (both_put (through_text c) U old x y) z
+
+pub increment_fits : (base l inc : ℕ) {room : ℕ} → (inc ≡ 1 → ⊥) → length (increment_text base l inc) ≤ room → 2 + length (numeral_text base l 0 inc) ≤ room
+unfolding increment_text
+increment_fits base l inc n h = let k = rw (ne_eqb _ _ n) at h in omega arith
 
 pub increment_put : (base l inc : ℕ) (old : List ℕ) {q : ℕ} {xs ys : List ℕ} → (inc ≡ 1 → ⊥) → xs ≡ over (byte "+" ∷ byte "+" ∷ []) old
     → Puts (numeral_text base l 0 inc) (part xs 2) q ys → Puts (increment_text base l inc) old (2 + q) (back xs 2 ys)

@@ -1,5 +1,7 @@
 // The value of a place as text, from the fields of a record that is known to be well formed: element by element, unit by unit. Each writer is lent the
 // buffer from its start position, and says every byte of it; beside each stands the function that only measures.
+#![tactic(auto)]
+
 ghost use Rattle.std.specs.Prelude.{◌≡◌, [], ◌∷◌, ◌+◌, ◌-◌, ◌^◌, ◌≤◌, ◌<◌, length, get_or};
 ghost use Rattle.laws.specs.Over.{over};
 ghost use Rattle.print_value.specs.Begins.{begins, begins_at};
@@ -15,14 +17,14 @@ const COMPOUND: usize = 3;
 const PLUS: usize = 2;
 
 // How many bytes were written, and where the next field begins.
-#[derive(Drop)]
+#[derive(Clone, Copy)]
 pub struct Put {
     pub bytes: usize,
     pub next: usize,
 }
 
 // The same of an argument's units, and where the last of them stands.
-#[derive(Drop)]
+#[derive(Clone, Copy)]
 pub struct Units {
     pub bytes: usize,
     pub last: usize,
@@ -30,7 +32,7 @@ pub struct Units {
 }
 
 // The same of an element, whose leading units stand from `lead` to `until`.
-#[derive(Drop)]
+#[derive(Clone, Copy)]
 pub struct Laid {
     pub bytes: usize,
     pub lead: usize,

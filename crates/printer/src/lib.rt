@@ -1,4 +1,6 @@
 // The printer: a record to its command's text. Refuses with 18, 2 and 17, in this order, before anything is written.
+#![tactic(auto)]
+
 ghost use Rattle.std.specs.Prelude.{◌≡◌, true, ◌≤◌, length};
 ghost use Rattle.rules.specs.WellFormed.{well_formed_body};
 ghost use Rattle.rules.specs.Answers.{Prints};
