@@ -12,12 +12,12 @@ const COMMAND: usize = console_figures::BEFORE + ARGUMENT + console_figures::BEH
 const DECIMAL: u8 = b'D';
 
 // Serves a command. The library judges the place before the argument: with none it says what there is to say of the place.
-pub fn serve(bases: &[u8], line: &[u8], record: &[u8], place: u32) -> Outcome {
+pub fn serve(rt: HostRuntime, bases: &[u8], line: &[u8], record: &[u8], place: u32) -> Outcome {
     match mml::member(record, place, b"") {
-        Answer::Done(_) => ask(record, place),
+        Answer::Done(_) => ask(rt, record, place),
         Answer::Refused(number, at) => {
             if number == WRONG_ARGUMENT {
-                return ask(record, place);
+                return ask(rt, record, place);
             }
             console_replies::refuse(false, bases, line, number, at)
         }
@@ -25,9 +25,9 @@ pub fn serve(bases: &[u8], line: &[u8], record: &[u8], place: u32) -> Outcome {
 }
 
 // Asks for the argument of the words.
-fn ask(record: &[u8], place: u32) -> Outcome {
+fn ask(rt: HostRuntime, record: &[u8], place: u32) -> Outcome {
     let mut argument = [0u8; ARGUMENT];
-    let n = console_words::argument(&mut argument);
+    let n = console_words::argument(rt, &mut argument);
     let mut text = [0u8; COMMAND];
     let long = console_figures::put_asked(&argument, n, &mut text);
     let letters = [letter(record, place as usize); MOST_LETTERS];

@@ -9,7 +9,13 @@ use rules::Answer;
 const NOT_READY: u32 = 0;
 
 // Takes one key after the other, and answers the worst that came of a key or a line. No input has as many keys as there are turns.
-pub fn serve(manner: Manner, columns: u64, bases: &[u8], block: &mut [u8; BLOCK]) -> Outcome {
+pub fn serve(
+    rt: HostRuntime,
+    manner: Manner,
+    columns: u64,
+    bases: &[u8],
+    block: &mut [u8; BLOCK],
+) -> Outcome {
     let mut input = console_lines::start();
     let mut keeper = console_typing::empty();
     let mut last = Answer::Done(NOT_READY);
@@ -19,10 +25,10 @@ pub fn serve(manner: Manner, columns: u64, bases: &[u8], block: &mut [u8; BLOCK]
         if console_replies::is_failure(worst) {
             return console_replies::unwritten();
         }
-        match console_typing::next_key(manner, block, input) {
+        match console_typing::next_key(manner, rt.stdin(), block, input) {
             Key::End => {
                 let line = console_typing::line(&keeper.bytes, keeper.count);
-                return end(worst, serve_left(manner, bases, line, last));
+                return end(worst, serve_left(rt, manner, bases, line, last));
             }
             Key::Failed => {
                 return console_replies::unread();
@@ -34,7 +40,7 @@ pub fn serve(manner: Manner, columns: u64, bases: &[u8], block: &mut [u8; BLOCK]
                 let line = console_typing::line(&after.bytes, after.count);
                 worst = console_replies::worse(
                     worst,
-                    tell(manner, columns, bases, line, last, answer),
+                    tell(rt, manner, columns, bases, line, last, answer),
                 );
                 keeper = after;
                 last = answer;
@@ -54,6 +60,7 @@ fn begin(manner: Manner, columns: u64) -> Outcome {
 // Tells what became of a key: the line so far, the answer to a line that is ready, or the key's refusal. Of keys that are refused one
 // after the other the first is told of; the answer to the key before was `last`.
 fn tell(
+    rt: HostRuntime,
     manner: Manner,
     columns: u64,
     bases: &[u8],
@@ -66,7 +73,7 @@ fn tell(
             if value == NOT_READY {
                 return console_replies::served(console_typing::show(manner, columns, line));
             }
-            serve_ready(manner, columns, bases, line)
+            serve_ready(rt, manner, columns, bases, line)
         }
         Answer::Refused(number, place) => {
             if is_refused(last) {
@@ -78,9 +85,15 @@ fn tell(
 }
 
 // Answers a line that is ready, below its row, and asks for the next.
-fn serve_ready(manner: Manner, columns: u64, bases: &[u8], line: &[u8]) -> Outcome {
+fn serve_ready(
+    rt: HostRuntime,
+    manner: Manner,
+    columns: u64,
+    bases: &[u8],
+    line: &[u8],
+) -> Outcome {
     if console_typing::show(manner, columns, line) && console_typing::end_row(manner) {
-        let outcome = crate::verbs::check(bases, line);
+        let outcome = crate::verbs::check(rt, bases, line);
         return ask(manner, columns, b"", outcome);
     }
     Outcome::Failed
@@ -119,12 +132,12 @@ fn end(worst: Outcome, left: Outcome) -> Outcome {
 }
 
 // What is left when the keys end: a line that is neither ready nor blank is answered as it is.
-fn serve_left(manner: Manner, bases: &[u8], line: &[u8], last: Answer) -> Outcome {
+fn serve_left(rt: HostRuntime, manner: Manner, bases: &[u8], line: &[u8], last: Answer) -> Outcome {
     if console_typing::end_row(manner) {
         if is_ready(last) || console_typing::is_blank(line) {
             return Outcome::Served;
         }
-        return crate::verbs::check(bases, line);
+        return crate::verbs::check(rt, bases, line);
     }
     Outcome::Failed
 }

@@ -15,6 +15,8 @@
 //
 // The digit is the script's status: 0 every line was served, 1 at least one was refused, 2 the words
 // are wrong, 3 input or output failed. No Rattle program ends with a status of its own.
+#![tactic(auto)]
+
 mod has;
 mod keys;
 mod place;
@@ -36,38 +38,38 @@ const BASES: usize = rules::MOST_LETTERS + 1;
 const MOST_LIST: usize = 4194304;
 
 // Serves what the words ask, and tells what came of it.
-fn main() {
-    let manner = console_words::how();
-    match console_words::what(manner) {
+fn main(rt: HostRuntime) {
+    let manner = console_words::how(rt);
+    match console_words::what(rt, manner) {
         Asked::Commands(verb) => console_words::tell(
             manner,
-            console_replies::digit(serve_commands(manner, verb)),
+            console_replies::digit(serve_commands(rt, manner, verb)),
         ),
         Asked::Records(verb) => console_words::tell(
             manner,
-            console_replies::digit(serve_records(manner, verb)),
+            console_replies::digit(serve_records(rt, manner, verb)),
         ),
         Asked::Keys(columns) => console_words::tell(
             manner,
-            console_replies::digit(serve_keys(manner, columns)),
+            console_replies::digit(serve_keys(rt, manner, columns)),
         ),
         Asked::Wrong => console_words::tell(manner, b'2'),
     }
 }
 
 // Serves each line as a command. One verb alone needs room for a list.
-fn serve_commands(manner: Manner, verb: Verb) -> Outcome {
+fn serve_commands(rt: HostRuntime, manner: Manner, verb: Verb) -> Outcome {
     let mut none = [0u8; 0];
     match verb {
-        Verb::List => serve_lists(manner),
-        _ => serve_with(manner, verb, &mut none),
+        Verb::List => serve_lists(rt, manner),
+        _ => serve_with(rt, manner, verb, &mut none),
     }
 }
 
 // Serves each line as a command whose orders are to be listed. All lists use the same room.
-fn serve_lists(manner: Manner) -> Outcome {
+fn serve_lists(rt: HostRuntime, manner: Manner) -> Outcome {
     let mut room = list_buffer();
-    serve_with(manner, Verb::List, &mut room)
+    serve_with(rt, manner, Verb::List, &mut room)
 }
 
 // Room for a list. The contract has its length alone, which is all that lending it needs.
@@ -78,12 +80,13 @@ fn list_buffer() -> [u8; MOST_LIST]
 }
 
 // Serves each line as a command, with room for its list.
-fn serve_with(manner: Manner, verb: Verb, room: &mut [u8]) -> Outcome {
+fn serve_with(rt: HostRuntime, manner: Manner, verb: Verb, room: &mut [u8]) -> Outcome {
     let mut letters = [0u8; BASES];
-    let n = console_words::bases(&mut letters);
+    let n = console_words::bases(rt, &mut letters);
     let mut block = io::buffer();
     let mut line = [0u8; COMMAND_LINE];
     serve(
+        rt,
         manner,
         verb,
         console_figures::front(&letters, n),
@@ -94,11 +97,12 @@ fn serve_with(manner: Manner, verb: Verb, room: &mut [u8]) -> Outcome {
 }
 
 // Serves each byte as a key.
-fn serve_keys(manner: Manner, columns: u64) -> Outcome {
+fn serve_keys(rt: HostRuntime, manner: Manner, columns: u64) -> Outcome {
     let mut letters = [0u8; BASES];
-    let n = console_words::bases(&mut letters);
+    let n = console_words::bases(rt, &mut letters);
     let mut block = io::buffer();
     keys::serve(
+        rt,
         manner,
         columns,
         console_figures::front(&letters, n),
@@ -107,16 +111,17 @@ fn serve_keys(manner: Manner, columns: u64) -> Outcome {
 }
 
 // Serves each line as a record.
-fn serve_records(manner: Manner, verb: Verb) -> Outcome {
+fn serve_records(rt: HostRuntime, manner: Manner, verb: Verb) -> Outcome {
     let mut block = io::buffer();
     let mut line = [0u8; RECORD_LINE];
     let mut none = [0u8; 0];
-    serve(manner, verb, b"", &mut block, &mut line, &mut none)
+    serve(rt, manner, verb, b"", &mut block, &mut line, &mut none)
 }
 
 // Serves one line after the other, and answers the worst that came of one. No input has as many
 // lines as there are turns.
 fn serve(
+    rt: HostRuntime,
     manner: Manner,
     verb: Verb,
     bases: &[u8],
@@ -128,7 +133,7 @@ fn serve(
     let mut worst = Outcome::Served;
     let mut turns = u64::MAX;
     while 0 < turns {
-        match next_line(manner, block, input, line) {
+        match next_line(rt, manner, block, input, line) {
             Got::End => {
                 return end(manner, worst);
             }
@@ -137,6 +142,7 @@ fn serve(
             }
             Got::Line { kept, long, rest } => {
                 let outcome = verbs::serve(
+                    rt,
                     verb,
                     bases,
                     console_figures::front(line, kept),
@@ -156,9 +162,15 @@ fn serve(
 }
 
 // Asks for the next line, and reads it.
-fn next_line(manner: Manner, block: &mut [u8; BLOCK], input: Input, line: &mut [u8]) -> Got {
+fn next_line(
+    rt: HostRuntime,
+    manner: Manner,
+    block: &mut [u8; BLOCK],
+    input: Input,
+    line: &mut [u8],
+) -> Got {
     if console_words::prompt(manner, b"mml> ") {
-        return console_lines::next_line(block, input, line);
+        return console_lines::next_line(rt.stdin(), block, input, line);
     }
     Got::Failed
 }

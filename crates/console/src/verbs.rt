@@ -5,26 +5,39 @@ use console_words::Verb;
 use rules::{Answer, MOST_PLACES, MOST_TEXT};
 
 // Serves a line of `long` bytes, of which `line` has kept the first. A list is written into `room`.
-pub fn serve(verb: Verb, bases: &[u8], line: &[u8], long: usize, room: &mut [u8]) -> Outcome {
+pub fn serve(
+    rt: HostRuntime,
+    verb: Verb,
+    bases: &[u8],
+    line: &[u8],
+    long: usize,
+    room: &mut [u8],
+) -> Outcome {
     match verb {
         Verb::Text => serve_record(verb, line, long),
         Verb::Bases => serve_record(verb, line, long),
         Verb::Place(place) => crate::place::serve(bases, line, place),
-        _ => serve_command(verb, bases, line, room),
+        _ => serve_command(rt, verb, bases, line, room),
     }
 }
 
 // Serves a line as `check` does.
-pub fn check(bases: &[u8], line: &[u8]) -> Outcome {
+pub fn check(rt: HostRuntime, bases: &[u8], line: &[u8]) -> Outcome {
     let mut none = [0u8; 0];
-    serve_command(Verb::Check, bases, line, &mut none)
+    serve_command(rt, Verb::Check, bases, line, &mut none)
 }
 
 // Reads a command, and does with its record what the verb asks.
-fn serve_command(verb: Verb, bases: &[u8], line: &[u8], room: &mut [u8]) -> Outcome {
+fn serve_command(
+    rt: HostRuntime,
+    verb: Verb,
+    bases: &[u8],
+    line: &[u8],
+    room: &mut [u8],
+) -> Outcome {
     let mut record = io::large_buffer();
     match mml::read(line, bases, &mut record) {
-        Answer::Done(n) => serve_accepted(verb, bases, line, front(&record, n as usize), room),
+        Answer::Done(n) => serve_accepted(rt, verb, bases, line, front(&record, n as usize), room),
         Answer::Refused(number, place) => console_replies::refuse(
             is_check(verb),
             bases,
@@ -45,6 +58,7 @@ fn is_check(verb: Verb) -> bool {
 
 // Does what the verb asks with the record of a command.
 fn serve_accepted(
+    rt: HostRuntime,
     verb: Verb,
     bases: &[u8],
     line: &[u8],
@@ -56,7 +70,7 @@ fn serve_accepted(
         Verb::Orders => write_orders(record),
         Verb::List => write_list(bases, line, record, room),
         Verb::Order(k) => write_order(bases, line, record, k),
-        Verb::Has(place) => crate::has::serve(bases, line, record, place),
+        Verb::Has(place) => crate::has::serve(rt, bases, line, record, place),
         _ => console_replies::write_record(record),
     }
 }

@@ -19,7 +19,7 @@ const VALUE: usize = record_walk::HEADER
     + 2 * record_walk::LETTER_FIELD;
 
 // Whether an argument is among others, and its first position.
-#[derive(Drop)]
+#[derive(Clone, Copy)]
 pub enum Member {
     At(u32),
     Absent,

@@ -1,5 +1,7 @@
 // What the programs over the library take from bytes: numbers and bytes that a text writes in digits, the first bytes of a buffer, a
 // record's own base letters, the first order of a list, and an argument that is asked for.
+#![tactic(auto)]
+
 mod asked;
 mod letters;
 mod numbers;

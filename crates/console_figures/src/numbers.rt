@@ -7,21 +7,21 @@ ghost use Rattle.console_figures.specs.Numbers.{hex_value, is_blank, number_of, 
 const NO_DIGIT: u8 = 16;
 
 // The bytes that a text of hexadecimal stands for, or its first byte that is out of place.
-#[derive(Drop)]
+#[derive(Clone, Copy)]
 pub enum Decoded {
     Bytes(usize),
     Wrong(usize),
 }
 
 // A number, or no number: empty, another byte than a digit, or above 64 bits.
-#[derive(Drop)]
+#[derive(Clone, Copy)]
 pub enum Number {
     Is(u64),
     Wrong,
 }
 
 // The byte of a pair of digits, or the place where a digit should be.
-#[derive(Drop)]
+#[derive(Clone, Copy)]
 enum Pair {
     Byte(u8),
     Wrong(usize),

@@ -1,20 +1,27 @@
 // What the programs over the library share: the lines of standard input, however they arrive (from
 // a file or a pipe, typed or pasted), its bytes one by one, and bytes written in hexadecimal.
+#![tactic(auto)]
+
 mod hexadecimal;
 
-ghost use Rattle.std.specs.Prelude.{◌≤◌, ◌≡◌, false};
+ghost use Rattle.std.specs.Prelude.{◌≤◌, ◌≡◌, false, length};
 
 pub use hexadecimal::write_hex;
-use libc::STDIN_FILENO;
+use std::io::{Read, Stdin};
 
 // How many bytes are read at a time.
 pub const BLOCK: usize = 4096;
 
 const NEWLINE: u8 = b'\n';
 
+// The descriptors that the programs write to.
+pub const STDOUT_FILENO: i32 = 1;
+
+pub const STDERR_FILENO: i32 = 2;
+
 // How far the block that was read last is served: its bytes from `at` up to `end` are left. The
 // input is over where the last read brought nothing, and failed where that read failed.
-#[derive(Drop)]
+#[derive(Clone, Copy)]
 pub struct Input {
     pub at: usize,
     pub end: usize,
@@ -24,7 +31,7 @@ pub struct Input {
 
 // A line without its newline: its first `kept` bytes stand in the buffer, and it has `long` in all.
 // Or the end of the input, or a read that failed.
-#[derive(Drop)]
+#[derive(Clone, Copy)]
 pub enum Got {
     Line {
         kept: usize,
@@ -36,7 +43,7 @@ pub enum Got {
 }
 
 // One byte. Or the end of the input, or a read that failed.
-#[derive(Drop)]
+#[derive(Clone, Copy)]
 pub enum One {
     Byte { byte: u8, rest: Input },
     End,
@@ -58,12 +65,12 @@ pub fn start() -> Input
 // The next line. It is served as soon as its newline has come, so that a typed line does not wait
 // for the next one; what stands behind the last newline is a line too, unless it is empty. A line
 // that a failed read cuts off is none. No line takes as many reads as there are turns.
-pub fn next_line(block: &mut [u8; BLOCK], input: Input, line: &mut [u8]) -> Got {
+pub fn next_line(stdin: Stdin, block: &mut [u8; BLOCK], input: Input, line: &mut [u8]) -> Got {
     let mut rest = input;
     let mut long: usize = 0;
     let mut turns = u64::MAX;
     while 0 < turns {
-        rest = filled(block, rest);
+        rest = filled(stdin, block, rest);
         if rest.over {
             return last(long, line.len(), rest);
         }
@@ -83,8 +90,8 @@ pub fn next_line(block: &mut [u8; BLOCK], input: Input, line: &mut [u8]) -> Got 
 }
 
 // The next byte, as soon as it has come.
-pub fn next_byte(block: &mut [u8; BLOCK], input: Input) -> One {
-    let mut rest = filled(block, input);
+pub fn next_byte(stdin: Stdin, block: &mut [u8; BLOCK], input: Input) -> One {
+    let mut rest = filled(stdin, block, input);
     if rest.failed {
         return One::Failed;
     }
@@ -100,7 +107,7 @@ pub fn next_byte(block: &mut [u8; BLOCK], input: Input) -> One {
 }
 
 // The input with bytes to serve: where none are left it reads once.
-fn filled(block: &mut [u8; BLOCK], input: Input) -> Input
+fn filled(stdin: Stdin, block: &mut [u8; BLOCK], input: Input) -> Input
     ensures { (result.at ≤ result.end) × (result.end ≤ 4096) }
 {
     let at = input.at;
@@ -113,24 +120,23 @@ fn filled(block: &mut [u8; BLOCK], input: Input) -> Input
     if input.over {
         return read_nothing(input.failed);
     }
-    read_block(block)
+    read_block(stdin, block)
 }
 
 // The input after one read of standard input.
-fn read_block(block: &mut [u8]) -> Input
-    requires* { do ⌜ (← ⟦block.len()⟧) ≤ 4096 ⌝ }
+fn read_block(mut stdin: Stdin, block: &mut [u8]) -> Input
+    requires { length block.old ≤ 4096 }
     ensures { (result.at ≤ result.end) × (result.end ≤ 4096) }
 {
-    let got = libc::read(STDIN_FILENO, block);
-    let n = io::count(got, block);
-    if n == 0 {
-        return read_nothing(got < 0);
-    }
-    Input {
-        at: 0,
-        end: n,
-        over: false,
-        failed: false,
+    match stdin.read(block) {
+        Ok(0) => read_nothing(false),
+        Ok(n) => Input {
+            at: 0,
+            end: n,
+            over: false,
+            failed: false,
+        },
+        Err(_) => read_nothing(true),
     }
 }
 

@@ -1,12 +1,14 @@
 // What the console writes of a line, and what became of it.
+#![tactic(auto)]
+
 ghost use Rattle.std.specs.Prelude.{◌≡◌};
 ghost use Rattle.console_replies.specs.Outcomes.{worst, lost, told};
 
-use libc::{STDERR_FILENO, STDOUT_FILENO};
+use console_lines::{STDERR_FILENO, STDOUT_FILENO};
 
 // What became of a line: it was served; or it was refused, and that was said; or what was to be
 // said could not be written.
-#[derive(Drop)]
+#[derive(Clone, Copy)]
 pub enum Outcome {
     Served,
     Refused,

@@ -1,4 +1,6 @@
 // What an operator is told of a refusal: the line, a caret under the place, a sentence for the number, and one for this line.
+#![tactic(auto)]
+
 mod hint;
 
 pub use console_window::point;

@@ -1,11 +1,13 @@
 // What an operator types, key by key, and the row of the terminal that shows the line so far.
+#![tactic(auto)]
+
 ghost use Rattle.std.specs.Prelude.{◌≡◌, ◌≤◌, take};
 ghost use Rattle.console_typing.specs.Meant.{meant_by, meant_on_terminal};
 
-use console_lines::{BLOCK, Input, One};
+use console_lines::{BLOCK, Input, One, STDERR_FILENO};
 use console_words::Manner;
-use libc::STDERR_FILENO;
 use rules::{Keeper, MOST_TEXT};
+use std::io::Stdin;
 
 // Keys: BS, and what a terminal sends for it; what ends the input on a terminal.
 const BACKSPACE: u8 = 8;
@@ -24,7 +26,7 @@ const WIDEST: usize = 74;
 const CUT: usize = 2;
 
 // A key, the end of the keys, or a read that failed.
-#[derive(Drop)]
+#[derive(Clone, Copy)]
 pub enum Key {
     Is { key: u8, rest: Input },
     End,
@@ -45,8 +47,8 @@ pub fn line(bytes: &[u8], count: u32) -> &[u8]
 }
 
 // The next key: from a terminal what the operator means by it, else the byte as it came.
-pub fn next_key(manner: Manner, block: &mut [u8; BLOCK], input: Input) -> Key {
-    match console_lines::next_byte(block, input) {
+pub fn next_key(manner: Manner, stdin: Stdin, block: &mut [u8; BLOCK], input: Input) -> Key {
+    match console_lines::next_byte(stdin, block, input) {
         One::Byte { byte, rest } => meant(manner, byte, rest),
         One::End => Key::End,
         One::Failed => Key::Failed,

@@ -1,4 +1,6 @@
 // A line on a terminal: as much of it as fits around a place, and a caret below the place.
+#![tactic(auto)]
+
 ghost use Rattle.std.specs.Prelude.{◌+◌, ◌≤◌, length};
 ghost use Rattle.io.specs.Counts.{IsPrefixLen};
 
@@ -15,7 +17,7 @@ const ROW: usize = 80;
 const BLANKS: [u8; ROW] = [b' '; ROW];
 
 // What of a line is shown: its bytes from `from` up to `to`.
-#[derive(Drop)]
+#[derive(Clone, Copy)]
 pub struct Window {
     pub from: usize,
     pub to: usize,

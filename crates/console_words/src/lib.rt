@@ -1,6 +1,10 @@
 // The words that the console is started with, MANNER VERB K BASES ARGUMENT, and how it tells who started it what came of them.
+#![tactic(auto)]
+
+ghost use Rattle.std.specs.Prelude.{◌≤◌, length};
+
 use console_figures::Number;
-use libc::{ENAMETOOLONG, STDERR_FILENO};
+use std::env::{Env, FillError};
 
 // How many words there are, the program's own name among them.
 const COUNT: usize = 6;
@@ -22,11 +26,13 @@ const LONGEST_K: usize = 20;
 // The largest K that is a place.
 const LARGEST_PLACE: u64 = 4294967295;
 
+// The descriptor of standard error.
+const STDERR_FILENO: i32 = 2;
 // The descriptor where the script reads a digit.
 const SCRIPT: i32 = 3;
 
 // How the program was started.
-#[derive(Drop)]
+#[derive(Clone, Copy)]
 pub enum Manner {
     Alone,
     Told,
@@ -35,7 +41,7 @@ pub enum Manner {
 }
 
 // What is asked of each line: `Text` and `Bases` of a record, the others of a command.
-#[derive(Drop)]
+#[derive(Clone, Copy)]
 pub enum Verb {
     Check,
     Record,
@@ -50,7 +56,7 @@ pub enum Verb {
 
 // What the words ask: of lines that are commands or records; of keys, on a terminal with so many columns. Where they are wrong, that
 // has been said.
-#[derive(Drop)]
+#[derive(Clone, Copy)]
 pub enum Asked {
     Commands(Verb),
     Records(Verb),
@@ -59,9 +65,9 @@ pub enum Asked {
 }
 
 // How the program was started, by the first word.
-pub fn how() -> Manner {
+pub fn how(rt: HostRuntime) -> Manner {
     let mut word = [0u8; LONGEST_WORD];
-    let n = os::arg(MANNER, &mut word);
+    let n = whole(rt, MANNER, &mut word);
     manner_of(&word[..n])
 }
 
@@ -80,30 +86,50 @@ fn manner_of(word: &[u8]) -> Manner {
 }
 
 // What the other words ask.
-pub fn what(manner: Manner) -> Asked {
-    if os::arg_count() != COUNT {
+pub fn what(rt: HostRuntime, manner: Manner) -> Asked {
+    if !is_given(rt, COUNT - 1) || is_given(rt, COUNT) {
         return complain();
     }
     match manner {
         Manner::Unknown => complain(),
-        _ => what_verb(),
+        _ => what_verb(rt),
+    }
+}
+
+// Is there a word with this number?
+fn is_given(rt: HostRuntime, i: usize) -> bool {
+    let mut none = [0u8; 0];
+    match rt.arg(i, &mut none) {
+        Ok(_) => true,
+        Err(FillError::TooLong) => true,
+        Err(FillError::NotPresent) => false,
+    }
+}
+
+// Puts a word into `room`, and answers how many bytes: 0 where there is none, or not room for the whole.
+fn whole(rt: HostRuntime, i: usize, room: &mut [u8]) -> usize
+    ensures { result ≤ length room.new }
+{
+    match rt.arg(i, room) {
+        Ok(n) => n,
+        Err(_) => 0,
     }
 }
 
 // What the verb and K ask.
-fn what_verb() -> Asked {
+fn what_verb(rt: HostRuntime) -> Asked {
     let mut digits = [0u8; LONGEST_K];
-    let n = os::arg(K, &mut digits);
+    let n = whole(rt, K, &mut digits);
     match console_figures::decimal(&digits[..n]) {
-        Number::Is(k) => what_of(k),
+        Number::Is(k) => what_of(rt, k),
         Number::Wrong => complain(),
     }
 }
 
 // What the verb asks, with the number K.
-fn what_of(k: u64) -> Asked {
+fn what_of(rt: HostRuntime, k: u64) -> Asked {
     let mut word = [0u8; LONGEST_WORD];
-    let n = os::arg(VERB, &mut word);
+    let n = whole(rt, VERB, &mut word);
     command_verb(&word[..n], k)
 }
 
@@ -170,22 +196,22 @@ fn complain() -> Asked {
 }
 
 // Puts the base letters into `letters`, and answers how many: of a longer list as many as fit.
-pub fn bases(letters: &mut [u8]) -> usize {
-    front_of(BASES, letters)
+pub fn bases(rt: HostRuntime, letters: &mut [u8]) -> usize {
+    front_of(rt, BASES, letters)
 }
 
 // Puts the argument that `has` asks for into `argument`, and answers how many bytes: of a longer one as many as fit.
-pub fn argument(argument: &mut [u8]) -> usize {
-    front_of(ARGUMENT, argument)
+pub fn argument(rt: HostRuntime, argument: &mut [u8]) -> usize {
+    front_of(rt, ARGUMENT, argument)
 }
 
 // Puts a word, or as much of it as fits, into `room`, and answers how many bytes.
-fn front_of(i: usize, room: &mut [u8]) -> usize {
-    let n = os::arg(i, room);
-    if os::errno() == ENAMETOOLONG {
-        return room.len();
+fn front_of(rt: HostRuntime, i: usize, room: &mut [u8]) -> usize {
+    match rt.arg(i, room) {
+        Ok(n) => n,
+        Err(FillError::TooLong) => room.len(),
+        Err(FillError::NotPresent) => 0,
     }
-    n
 }
 
 // Tells the script a digit, if it listens.

@@ -1,4 +1,6 @@
 // What stands around a token of the table: its index, its neighbours, and the value, the place and the block that hold it.
+#![tactic(auto)]
+
 ghost use Rattle.std.specs.Prelude.{◌≤◌};
 
 // The kind that no token has, for an index outside the table.

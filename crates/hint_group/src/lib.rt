@@ -1,4 +1,6 @@
 // Which group rule is broken (14), told from what stands at the place and before it.
+#![tactic(auto)]
+
 use hint_phrases::Hint;
 use units::Word;
 
@@ -46,7 +48,7 @@ const BEHIND_SHORT: u8 = b't';
 const BEHIND_UPPER: u8 = b'a';
 
 // A unit as an end of a range or an increment.
-#[derive(Drop)]
+#[derive(Clone, Copy)]
 enum Number {
     Whole { letter: u8, value: u32 },
     Fraction,

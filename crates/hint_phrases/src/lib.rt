@@ -1,4 +1,6 @@
 // What the console says of a refusal: phrases from one catalogue, into which characters, numbers and stretches of bytes come.
+#![tactic(auto)]
+
 mod catalogue;
 mod find;
 mod inserts;
@@ -12,7 +14,7 @@ pub const UNKNOWN: u8 = b'-';
 
 // What is told of a refusal: the phrases that its number has in the catalogue under these keys, where `lead` and `tail` may be NONE, and
 // what comes into them: two characters, and four numbers, also as the bounds of two stretches of the line or of its tokens' contents.
-#[derive(Drop)]
+#[derive(Clone, Copy)]
 pub struct Hint {
     pub lead: u8,
     pub key: u8,

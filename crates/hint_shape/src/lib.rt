@@ -1,5 +1,7 @@
 // Why a token does not fit where it stands: behind the command (7), in the code (8), in a block (9), in a name (10), in a value (11). What
 // is answered are keys of the catalogue's phrases, or a hint with what comes into one.
+#![tactic(auto)]
+
 mod kinds;
 
 use hint_phrases::Hint;

@@ -1,4 +1,6 @@
 // Which limit is passed: of blocks, places or elements (15), of arguments or orders (16).
+#![tactic(auto)]
+
 use hint_phrases::Hint;
 use read_elements::Value;
 

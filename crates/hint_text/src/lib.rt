@@ -1,5 +1,7 @@
 // What can be told of a base letter (1), of bytes (3, 5), of what is not closed (4), of a missing semicolon (6), of a word or string that is
 // too long (15), and of an order (19) or a place (26) that is not there: from the text and the place alone.
+#![tactic(auto)]
+
 use hint_phrases::Hint;
 
 // The first byte outside ASCII.

@@ -1,4 +1,6 @@
 // Why a word is no unit under the base of its place (12), and which limit a numeral passes (13).
+#![tactic(auto)]
+
 ghost use Rattle.std.specs.Prelude.{◌≤◌};
 
 use hint_phrases::Hint;

@@ -1,10 +1,13 @@
 // Runs the scan and the units over the paper's lines that concern them. What it writes is compared with the file stdout, which was made from the paper alone.
+#![tactic(auto)]
+
 ghost use Rattle.std.specs.Prelude.{◌≤◌, length};
 
-use libc::STDOUT_FILENO;
 use scan::Filled;
 use units::Word;
 
+// The descriptor of standard output.
+const STDOUT_FILENO: i32 = 1;
 // Room for the tokens and the contents of every line below.
 const ROOM: usize = 128;
 

@@ -1,4 +1,6 @@
 // The public face: read, print, order, count, list, member, key, and the index of places: read_row, order_row and place, for Rattle and for C.
+#![tactic(auto)]
+
 ghost use Rattle.std.specs.Prelude.{◌≡◌, length};
 ghost use Rattle.rules.specs.Refusals.{map_r};
 ghost use Rattle.rules.specs.Answers.{reading, printing, ordering, counting, listing, locating, reading_row, ordering_row, placing, Reads, Prints, Orders, Counts, Lists, Locates, ReadsRow, OrdersRow, Places, HandsBack};
@@ -179,7 +181,7 @@ pub extern "C" fn mml_place(rec: &[u8], row: &[u32], number: u32) -> u64
 }
 
 // A keeper after a key, and the answer as one number.
-#[derive(Drop)]
+#[derive(Clone, Copy)]
 pub struct Numbered {
     pub keeper: Keeper,
     pub answer: u64,

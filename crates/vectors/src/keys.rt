@@ -1,6 +1,6 @@
 // Keys to the library's line keeper.
 use console_figures::{Decoded, front};
-use libc::STDOUT_FILENO;
+use console_lines::STDOUT_FILENO;
 use rules::{Answer, Keeper, MOST_TEXT};
 
 // The most keys of a line that is run whole.
@@ -10,7 +10,7 @@ const MOST_KEYS: usize = 2048;
 const READY: u32 = 1;
 
 // What a run of keys leaves: the keeper, whether its line is ready, and how many keys were refused.
-#[derive(Drop)]
+#[derive(Clone, Copy)]
 struct Left {
     keeper: Keeper,
     ready: bool,

@@ -6,14 +6,16 @@
 // blank between each two, `&ROW|ROOM|BASES|COMMAND` reads a command into a buffer of ROOM bytes,
 // `+ROW|ROOM|K|BASES|COMMAND` and `+ROW|ROOM|K|#RECORD` write order K into one, and `/ROW|PLACE|BASES|COMMAND` and
 // `/ROW|PLACE|#RECORD` ask for the fields of a place.
+#![tactic(auto)]
+
 mod keys;
 mod questions;
 mod rows;
 
 use console_figures::{Decoded, front};
-use console_lines::{BLOCK, Got};
-use libc::STDOUT_FILENO;
+use console_lines::{BLOCK, Got, STDOUT_FILENO};
 use rules::{Answer, MOST_PLACES, MOST_TEXT};
+use std::io::Stdin;
 
 // The longest line of the input that is run whole.
 const LONGEST_LINE: usize = 4096;
@@ -22,7 +24,7 @@ const LONGEST_LINE: usize = 4096;
 const FEW: u64 = 8;
 
 // What is asked for of a command.
-#[derive(Drop)]
+#[derive(Clone, Copy)]
 enum Asked {
     Record,
     Orders,
@@ -30,18 +32,18 @@ enum Asked {
 }
 
 // Runs standard input.
-fn main() {
+fn main(rt: HostRuntime) {
     let mut block = io::buffer();
     let mut line = [0u8; LONGEST_LINE];
-    run(&mut block, &mut line);
+    run(rt.stdin(), &mut block, &mut line);
 }
 
 // Runs one line after the other. No input has as many lines as there are turns.
-fn run(block: &mut [u8; BLOCK], line: &mut [u8]) {
+fn run(stdin: Stdin, block: &mut [u8; BLOCK], line: &mut [u8]) {
     let mut input = console_lines::start();
     let mut turns = u64::MAX;
     while 0 < turns {
-        match console_lines::next_line(block, input, line) {
+        match console_lines::next_line(stdin, block, input, line) {
             Got::End => {
                 return;
             }

@@ -1,6 +1,6 @@
 // Questions whether an argument stands in a place of a record.
 use console_figures::{Decoded, Number, front};
-use libc::STDOUT_FILENO;
+use console_lines::STDOUT_FILENO;
 use rules::Answer;
 
 // Room for every argument that is asked for: four strings of the longest take 332 bytes.

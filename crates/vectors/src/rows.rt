@@ -1,6 +1,6 @@
 // Rows of offsets: the reader and the order writer fill one, and a place is asked for by one.
 use console_figures::{Decoded, Number, front};
-use libc::STDOUT_FILENO;
+use console_lines::STDOUT_FILENO;
 use rules::Answer;
 
 // The most slots of a row, and the most bytes of a buffer, that a line lends.

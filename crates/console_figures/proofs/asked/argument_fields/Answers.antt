@@ -1,0 +1,11 @@
+-- `console_figures::asked::argument_fields` meets its contract, by the tag that stands where the value begins.
+-- Assumes nothing.
+use borrow.Author.Rules.{rules}
+use Rattle.console_figures.proofs.AskedLaws.{fields_single, fields_other}
+use Rattle.console_figures.proofs.asked.argument_fields.Goals as goal
+
+pub returns-then-tag_at-eq-SINGLE : goal.returns-then-tag_at-eq-SINGLE
+returns-then-tag_at-eq-SINGLE c = search (rules, fields_single)
+
+pub returns : goal.returns
+returns c = search (rules, fields_other)

@@ -1,0 +1,11 @@
+-- `hint_phrases::inserts::write_filled` is safe and ends: `at` goes to the end, by at least two.
+-- Assumes nothing.
+use Prim.Native.Nat.{◌-◌}
+use lib.ListN.{length}
+use Rattle.hint_phrases.proofs.inserts.write_filled.Given as goal
+
+abbrev pub invariant-loop-at : goal.invariant-loop-at
+invariant-loop-at l = Unit {0}
+
+abbrev pub decreases-loop-at : goal.decreases-loop-at
+decreases-loop-at l = length l.phrase - l.at
