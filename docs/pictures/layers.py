@@ -37,8 +37,9 @@ def read_crates(text):
     pairs = [row.split(":", 1) for row in rows if row]
     if any(len(p) != 2 for p in pairs):
         raise ValueError("crates.txt: a line has no ':'")
-    names = [p[0].strip() for p in pairs]
-    return {name.strip(): [d for d in deps.split() if d in names] for name, deps in pairs}
+    # What stands behind a name, as `staticlib`, is no name.
+    names = [p[0].split()[0] for p in pairs]
+    return {name.split()[0]: [d for d in deps.split() if d in names] for name, deps in pairs}
 
 
 def kind_of(house, name):
@@ -47,8 +48,10 @@ def kind_of(house, name):
     if (folder / "src" / "main.rt").exists():
         return "program"
     code = (folder / "src" / "lib.rt").read_text(encoding="utf-8")
-    if not any(row.lstrip().startswith(("fn ", "pub fn ")) for row in code.splitlines()):
+    if not any(row.lstrip().startswith(("fn ", "pub fn ", 'pub extern "C" fn ')) for row in code.splitlines()):
         return "rules"
+    if 'pub extern "C" fn ' in code:
+        return "exact"  # each export says its clauses
     return "exact" if any((folder / "specs").glob("*.antt")) else "safe"
 
 
