@@ -14,7 +14,7 @@
 //     ARGUMENT  what `has` asks for; the other verbs do not use it
 //
 // The digit is the script's status: 0 every line was served, 1 at least one was refused, 2 the words
-// are wrong, 3 input or output failed. No Rattle program ends with a status of its own.
+// are wrong, 3 input or output failed. The program's own status is 0 whatever it tells.
 #![tactic(auto)]
 
 mod has;
