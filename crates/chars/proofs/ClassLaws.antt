@@ -1,27 +1,28 @@
 -- Each test on a byte that the rules make is a test on its class: computed for the bytes below 128, and above none passes.
 use mathlib.Core.Path.{◌≡◌, refl, sym, ap, ◌∙◌}
-use mathlib.Core.Bool.{Bool, true, false, not, beq}
+use mathlib.Core.Bool.{Bool, true, false, not, not-not, beq}
 use Prim.Native.Nat.{ℕ, ◌≤◌, ◌<◌}
 use native.Mathlib.Omega.{arith}
-use lib.Dec.{eqb, ltb, eqb→eq}
+use lib.Dec.{eqb, ltb}
 use lib.ListN.{get_or}
 use borrow.Author.Tests.{eq-eqb, le-leb, lt-leb, ne_eqb, ltb-true, ltb-false}
 use Rattle.laws.specs.Cases.{by_bool, beq_same}
-use Rattle.laws.specs.Ranges.{alike, in_range}
-use Rattle.laws.specs.Table.{at}
+use Rattle.laws.specs.Ranges.{alike, in_range, equal_in_range}
 use Rattle.rules.specs.Characters.{byte, is_word_char, is_effector, is_permitted}
 use Rattle.rules.specs.Tokens.{dash, comma, colon, equals, semi, sep_code}
-use Rattle.chars.specs.Classes.{class_of, table, no_class, word_class, plus_class, amp_class, effector_class, slash_class, mark_class}
+use denote.Enum.Bare.{sameb, tag_one}
+use denote.Enum.Declared.{tag_of}
+use Rattle.chars.specs.contracts.Class.{the_type}
+use Rattle.chars.specs.declared.Class.{Class}
+use Rattle.chars.specs.declared.Class.TheVariants.{NotPermitted, Word, Plus, Ampersand, Effector, Dash, Comma, Colon, Equals, Semicolon, Slash, Mark, Other}
+use Rattle.chars.specs.Classes.{class_of, number, table, no_class, word_class, plus_class, amp_class, effector_class, slash_class, mark_class}
 
 -- ---- the table
 
-right : ℕ → ℕ → Bool
-right k x = eqb x (class_of k)
-
--- each entry is its byte's class: one test, computed
-pub entry : (b : ℕ) → b < 128 → get_or table b 0 ≡ class_of b
-unfolding table right class_of
-entry b h = eqb→eq (get_or table b 0) (class_of b) (at right table tt b h)
+-- each entry is its byte's class: computed
+pub entry : (b : ℕ) → b < 128 → number (get_or table b NotPermitted) ≡ class_of b
+unfolding table class_of
+entry b h = equal_in_range (λ b. number (get_or table b NotPermitted)) class_of 0 128 refl b (omega arith) h
 
 -- ---- bytes above the table
 
@@ -138,3 +139,34 @@ is_slash = only (byte "/") slash_class refl (omega arith) refl
 pub is_mark : (c : ℕ) → eqb c (byte "\"") ≡ eqb (class_of c) mark_class
 unfolding class_of
 is_mark = only (byte "\"") mark_class refl (omega arith) refl
+
+-- ---- tests on classes are tests on their numbers
+
+tag_is : (k : Class) → tag_of the_type k ≡ number k
+tag_is NotPermitted = refl
+tag_is Word = refl
+tag_is Plus = refl
+tag_is Ampersand = refl
+tag_is Effector = refl
+tag_is Dash = refl
+tag_is Comma = refl
+tag_is Colon = refl
+tag_is Equals = refl
+tag_is Semicolon = refl
+tag_is Slash = refl
+tag_is Mark = refl
+tag_is Other = refl
+
+-- what `==` on classes says
+pub same_is : (k j : Class) → sameb the_type k j ≡ eqb (number k) (number j)
+same_is k j = rw (tag_is k, tag_is j)
+
+pub same_class : {k j : Class} → number k ≡ number j → k ≡ j
+same_class {k} {j} e = tag_one the_type tt k j (tag_is k ∙ e ∙ sym (tag_is j))
+
+-- a test that tells two classes apart tells their numbers apart
+pub other_class_of : {k j : Class} → (k ≡ j → ⊥) → number k ≡ number j → ⊥
+other_class_of n e = n (same_class e)
+
+pub told_off : (c : ℕ) (k : Class) → number k ≡ class_of c → sameb the_type k NotPermitted ≡ not (is_permitted c)
+told_off c k e = rw (same_is k NotPermitted, e, is_permitted_lem c, not-not)

@@ -1,39 +1,35 @@
--- Each turn of `first_off` is a step of the rule `first_off`: the byte's class says whether it is permitted.
-use Prim.Native.Nat.{ℕ, ◌+◌, ◌<◌, ◌≤◌}
-use mathlib.Core.Path.{◌≡◌, refl, ap, ◌∙◌}
-use mathlib.Core.Bool.{Bool, true, false, not}
-use mathlib.Core.List.{List}
+-- The first byte that is not permitted is where the rule `first_off` refuses, and where there is none it does not.
+use Prim.Native.Nat.{ℕ, suc}
+use mathlib.Core.Path.{◌≡◌, refl, subst, sym, ◌∙◌}
+use mathlib.Core.Bool.{Bool, true, cond, not}
+use mathlib.Core.List.{List, [], ◌∷◌}
 use native.Mathlib.Numerals.{add-one}
-use lib.ListN.{length, get_or, drop, drop_of_length-le}
-use lib.Seq.{drop-cons}
-use borrow.Author.Tests.{ne_eqb}
+use lib.Dec.{ltb}
+use lib.ListN.{length}
+use Rattle.std.proofs.Common.{Option, Some, None}
+use Rattle.std.proofs.lemmas.Iterator.Adapters.{position_from-zero}
+use Rattle.std.specs.List.{position_from, position_or_len}
+use Rattle.laws.specs.Cases.{by_bool}
 use Rattle.rules.specs.Characters.{is_permitted}
 use Rattle.rules.specs.Refusals.{Res, ok, bad, not_permitted}
 use Rattle.rules.specs.Tokens.{first_off}
-use Rattle.chars.specs.Classes.{class_of, no_class}
-use Rattle.chars.proofs.ClassLaws.{is_permitted_lem}
+use Rattle.chars.specs.Off.{IsOff}
 
--- the rule on the text from place i on
-unfoldable pub off_at : List ℕ → ℕ → Res Bool
-off_at s i = first_off i (drop i s)
+-- a refusal at the place that was found
+abbrev Off : Res Bool → Option ℕ → Type 0
+Off q (Some p) = q ≡ bad not_permitted p
+Off q None = q ≡ ok true
 
-pub off_none : (s : List ℕ) → first_off 0 s ≡ off_at s 0
-unfolding off_at
-off_none s = refl
+off_from : (s : List ℕ) (i : ℕ) → Off (first_off i s) (position_from (λ b. not (is_permitted b)) i s)
+off_from [] i = refl
+off_from (b ∷ s) i =
+    by_bool (is_permitted b)
+    (λ y. rw (y, first_off, add-one i) (off_from s (suc i)))
+    (λ y. rw (y, first_off))
 
-module _ (s : List ℕ) (i : ℕ) where
-  pub off_more : {r : Res Bool} {k : ℕ} → r ≡ off_at s i → i < length s → k ≡ class_of (get_or s i 0) → (k ≡ no_class → ⊥) → r ≡ off_at s (i + 1)
-  unfolding off_at
-  off_more q h e n =
-      let t : is_permitted (get_or s i 0) ≡ true = is_permitted_lem (get_or s i 0) ∙ rw (← e) (ap not (ne_eqb _ 0 n)) in
-      q ∙ rw (add-one i, drop-cons s i 0 h, t, first_off)
+at_start : (s : List ℕ) (r : Option ℕ) → Off (first_off 0 s) r → IsOff s r
+at_start s (Some p) h = h
+at_start s None h = h
 
-  pub off_stop : {r : Res Bool} {k : ℕ} → r ≡ off_at s i → i < length s → k ≡ class_of (get_or s i 0) → k ≡ no_class → r ≡ bad not_permitted i
-  unfolding off_at
-  off_stop q h e n =
-      let t : is_permitted (get_or s i 0) ≡ false = is_permitted_lem (get_or s i 0) ∙ rw (← e, n) in
-      q ∙ rw (drop-cons s i 0 h, t, first_off)
-
-  pub off_end : {r : Res Bool} → r ≡ off_at s i → length s ≤ i → r ≡ ok true
-  unfolding off_at
-  off_end q h = q ∙ rw (drop_of_length-le s h)
+pub off_is : (s : List ℕ) (r : Option ℕ) → r ≡ cond (ltb (position_or_len (λ b. not (is_permitted b)) s) (length s)) (Some (position_or_len (λ b. not (is_permitted b)) s)) None → IsOff s r
+off_is s r e = at_start s r (subst (Off (first_off 0 s)) (sym (e ∙ position_from-zero (λ b. not (is_permitted b)) s)) (off_from s 0))

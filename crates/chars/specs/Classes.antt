@@ -1,7 +1,9 @@
--- The class of a byte, by what it begins, and the classes of the bytes 0 to 127 as a table.
+-- The class of a byte, by what it begins, the numbers of the classes, and the classes of the bytes 0 to 127 as a table.
 use Rattle.std.specs.Prelude.{ℕ, cond, List, [], ◌∷◌, eqb}
 use Rattle.rules.specs.Characters.{byte, is_word_char, is_effector, is_permitted}
 use Rattle.rules.specs.Tokens.{dash, comma, colon, equals, semi, sep_code}
+use Rattle.chars.specs.declared.Class.{Class}
+use Rattle.chars.specs.declared.Class.TheVariants.{NotPermitted, Word, Plus, Ampersand, Effector, Dash, Comma, Colon, Equals, Semicolon, Slash, Mark, Other}
 
 -- a byte that is not permitted
 abbrev pub no_class : ℕ
@@ -45,11 +47,38 @@ class_of c =
     (cond (eqb c (byte "/")) slash_class
     (cond (eqb c (byte "\"")) mark_class (cond (is_effector c) effector_class (cond (is_permitted c) other_class no_class)))))))))))
 
+-- the number of a class as the code has it
+abbrev pub number : Class → ℕ
+number NotPermitted = no_class
+number Word = word_class
+number Plus = plus_class
+number Ampersand = amp_class
+number Effector = effector_class
+number Dash = sep_code dash
+number Comma = sep_code comma
+number Colon = sep_code colon
+number Equals = sep_code equals
+number Semicolon = sep_code semi
+number Slash = slash_class
+number Mark = mark_class
+number Other = other_class
+
 -- "The classes of bytes 0 to 127 are one constant table."
-unfoldable pub table : List ℕ
+unfoldable pub table : List Class
 table =
-    0 ∷ 0 ∷ 0 ∷ 0 ∷ 0 ∷ 0 ∷ 0 ∷ 0 ∷ 0 ∷ 4 ∷ 4 ∷ 4 ∷ 4 ∷ 4 ∷ 0 ∷ 0 ∷ 0 ∷ 0 ∷ 0 ∷ 0 ∷ 0 ∷ 0 ∷ 0 ∷ 0 ∷ 0 ∷ 0 ∷ 0 ∷ 0 ∷ 0 ∷ 0 ∷ 0 ∷ 0 ∷
-    4 ∷ 12 ∷ 11 ∷ 1 ∷ 12 ∷ 1 ∷ 3 ∷ 1 ∷ 12 ∷ 12 ∷ 1 ∷ 2 ∷ 6 ∷ 5 ∷ 1 ∷ 10 ∷ 1 ∷ 1 ∷ 1 ∷ 1 ∷ 1 ∷ 1 ∷ 1 ∷ 1 ∷ 1 ∷ 1 ∷ 7 ∷ 9 ∷ 12 ∷ 8 ∷ 12 ∷ 12 ∷
-    12 ∷ 1 ∷ 1 ∷ 1 ∷ 1 ∷ 1 ∷ 1 ∷ 1 ∷ 1 ∷ 1 ∷ 1 ∷ 1 ∷ 1 ∷ 1 ∷ 1 ∷ 1 ∷ 1 ∷ 1 ∷ 1 ∷ 1 ∷ 1 ∷ 1 ∷ 1 ∷ 1 ∷ 1 ∷ 1 ∷ 1 ∷ 12 ∷ 12 ∷ 12 ∷ 12 ∷ 12 ∷
-    12 ∷ 1 ∷ 1 ∷ 1 ∷ 1 ∷ 1 ∷ 1 ∷ 1 ∷ 1 ∷ 1 ∷ 1 ∷ 1 ∷ 1 ∷ 1 ∷ 1 ∷ 1 ∷ 1 ∷ 1 ∷ 1 ∷ 1 ∷ 1 ∷ 1 ∷ 1 ∷ 1 ∷ 1 ∷ 1 ∷ 1 ∷ 12 ∷ 12 ∷ 12 ∷ 12 ∷ 0 ∷
-    []
+    NotPermitted ∷ NotPermitted ∷ NotPermitted ∷ NotPermitted ∷ NotPermitted ∷ NotPermitted ∷ NotPermitted ∷ NotPermitted ∷
+    NotPermitted ∷ Effector ∷ Effector ∷ Effector ∷ Effector ∷ Effector ∷ NotPermitted ∷ NotPermitted ∷
+    NotPermitted ∷ NotPermitted ∷ NotPermitted ∷ NotPermitted ∷ NotPermitted ∷ NotPermitted ∷ NotPermitted ∷ NotPermitted ∷
+    NotPermitted ∷ NotPermitted ∷ NotPermitted ∷ NotPermitted ∷ NotPermitted ∷ NotPermitted ∷ NotPermitted ∷ NotPermitted ∷
+    Effector ∷ Other ∷ Mark ∷ Word ∷ Other ∷ Word ∷ Ampersand ∷ Word ∷
+    Other ∷ Other ∷ Word ∷ Plus ∷ Comma ∷ Dash ∷ Word ∷ Slash ∷
+    Word ∷ Word ∷ Word ∷ Word ∷ Word ∷ Word ∷ Word ∷ Word ∷
+    Word ∷ Word ∷ Colon ∷ Semicolon ∷ Other ∷ Equals ∷ Other ∷ Other ∷
+    Other ∷ Word ∷ Word ∷ Word ∷ Word ∷ Word ∷ Word ∷ Word ∷
+    Word ∷ Word ∷ Word ∷ Word ∷ Word ∷ Word ∷ Word ∷ Word ∷
+    Word ∷ Word ∷ Word ∷ Word ∷ Word ∷ Word ∷ Word ∷ Word ∷
+    Word ∷ Word ∷ Word ∷ Other ∷ Other ∷ Other ∷ Other ∷ Other ∷
+    Other ∷ Word ∷ Word ∷ Word ∷ Word ∷ Word ∷ Word ∷ Word ∷
+    Word ∷ Word ∷ Word ∷ Word ∷ Word ∷ Word ∷ Word ∷ Word ∷
+    Word ∷ Word ∷ Word ∷ Word ∷ Word ∷ Word ∷ Word ∷ Word ∷
+    Word ∷ Word ∷ Word ∷ Other ∷ Other ∷ Other ∷ Other ∷ NotPermitted ∷ []

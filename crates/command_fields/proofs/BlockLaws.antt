@@ -25,6 +25,8 @@ use Rattle.rules.proofs.FieldLaws.{bytes_append}
 use Rattle.rules.proofs.ResultLaws.{ok_inj, ok≢bad}
 use Rattle.token_table.specs.Table.{place_in, tokens_in}
 use Rattle.read_bases.specs.Bases.{bases_in}
+use Rattle.token_table.specs.declared.Token.{Token as Entry}
+use Rattle.token_table.proofs.KindLaws.{no_token}
 use Rattle.token_table.specs.Parts.{before, place_or, parts_from, words_in, words_size}
 use Rattle.token_table.proofs.FindLaws.{parts_all, parts_next, parts_end, cut_at_lem, cut_none}
 use Rattle.token_table.proofs.WordLaws.{pieces_words, words_bytes}
@@ -36,21 +38,21 @@ use Rattle.command_fields.proofs.PlaceLaws.{Pieces, pieces_wrote, wrote_inside, 
 -- ---- the loop over places
 
 -- with the place e for the separator behind them: the places from index i on are left
-pub record PlacesLeft (ts cs ls : List ℕ) (k : Bool) (n₀ : ℕ) (old : List ℕ) (e : ℕ) (xs : List Placed) (i n z : ℕ) (o : List ℕ) : Type 0 where
+pub record PlacesLeft (ts : List Entry) (cs ls : List ℕ) (k : Bool) (n₀ : ℕ) (old : List ℕ) (e : ℕ) (xs : List Placed) (i n z : ℕ) (o : List ℕ) : Type 0 where
   names : List Name
   rest : List Placed
   is : read_places k (bases_in ls) n names (parts_from comma e cs ts i) ≡ ok rest
   at : Writing (places_bytes xs) (places_bytes rest) old z o
   count : n + length rest ≡ n₀ + length xs
 
-abbrev pub Placing : List ℕ → List ℕ → List ℕ → Bool → ℕ → List ℕ → ℕ → ℕ → ℕ → List ℕ → Type 0
+abbrev pub Placing : List Entry → List ℕ → List ℕ → Bool → ℕ → List ℕ → ℕ → ℕ → ℕ → List ℕ → Type 0
 Placing ts cs ls k n₀ old i n z o =
     (e : ℕ) (xs : List Placed) → read_places k (bases_in ls) n₀ [] (split comma e (tokens_in cs ts)) ≡ ok xs → PlacesLeft ts cs ls k n₀ old e xs i n z o
 
-pub placing_none : (ts cs ls : List ℕ) (k : Bool) (n₀ : ℕ) (old : List ℕ) → Placing ts cs ls k n₀ old 0 n₀ 0 old
+pub placing_none : (ts : List Entry) (cs ls : List ℕ) (k : Bool) (n₀ : ℕ) (old : List ℕ) → Placing ts cs ls k n₀ old 0 n₀ 0 old
 placing_none ts cs ls k n₀ old e xs h = record { names = []; rest = xs; is = rw (parts_all comma e cs ts) h; at = writing_none (places_bytes xs) old; count = refl }
 
-module _ (ts cs ls : List ℕ) (k : Bool) (n₀ : ℕ) (old : List ℕ) (i n z : ℕ) (o : List ℕ) where
+module _ (ts : List Entry) (cs ls : List ℕ) (k : Bool) (n₀ : ℕ) (old : List ℕ) (i n z : ℕ) (o : List ℕ) where
   -- the next place, between i and j, and what is left behind it
   record NextPlace (j e : ℕ) (xs : List Placed) : Type 0 where
     names : List Name
@@ -125,13 +127,13 @@ module _ (ts cs ls : List ℕ) (k : Bool) (n₀ : ℕ) (old : List ℕ) (i n z :
 -- ---- a block
 
 -- a block that is read: its kind, its places
-record BlockIs (ts cs ls : List ℕ) (k : Bool) (n e : ℕ) (b : PlacedBlock) : Type 0 where
+record BlockIs (ts : List Entry) (cs ls : List ℕ) (k : Bool) (n e : ℕ) (b : PlacedBlock) : Type 0 where
   xs : List Placed
   places : read_places k (bases_in ls) n [] (split comma e (tokens_in cs ts)) ≡ ok xs
   many' : block_size b ≡ length xs
   bytes : block_bytes b ≡ field_bytes (field 2 (cond k (byte "N") (byte "P") ∷ [])) ++ places_bytes xs
 
-module _ (ts cs ls : List ℕ) (n : ℕ) {k : Bool} (g : HasKind ts k) where
+module _ (ts : List Entry) (cs ls : List ℕ) (n : ℕ) {k : Bool} (g : HasKind ts k) where
   block_is : (e : ℕ) (b : PlacedBlock) → read_block (bases_in ls) n (split comma e (tokens_in cs ts)) ≡ ok b → BlockIs ts cs ls k n e b
   block_is e b h =
       let ss = split comma e (tokens_in cs ts) in
@@ -166,7 +168,7 @@ module _ (ts cs ls : List ℕ) (n : ℕ) {k : Bool} (g : HasKind ts k) where
 
 -- ---- the loop over blocks
 
-pub record BlocksLeft (ts cs ls old : List ℕ) (e : ℕ) (bs : List PlacedBlock) (i n z : ℕ) (o : List ℕ) : Type 0 where
+pub record BlocksLeft (ts : List Entry) (cs ls old : List ℕ) (e : ℕ) (bs : List PlacedBlock) (i n z : ℕ) (o : List ℕ) : Type 0 where
   m : ℕ
   q : ℕ
   rest : List PlacedBlock
@@ -174,14 +176,14 @@ pub record BlocksLeft (ts cs ls old : List ℕ) (e : ℕ) (bs : List PlacedBlock
   at : Writing (blocks_bytes bs) (blocks_bytes rest) old z o
 
 -- with the place e for the separator behind them and q for the first `:`: the blocks from index i on are left
-abbrev pub Blocking : List ℕ → List ℕ → List ℕ → ℕ → List ℕ → ℕ → ℕ → ℕ → List ℕ → Type 0
+abbrev pub Blocking : List Entry → List ℕ → List ℕ → ℕ → List ℕ → ℕ → ℕ → ℕ → List ℕ → Type 0
 Blocking ts cs ls i₀ old i n z o =
     (e q : ℕ) (bs : List PlacedBlock) → read_blocks (bases_in ls) 0 0 q (parts_from colon e cs ts i₀) ≡ ok bs → BlocksLeft ts cs ls old e bs i n z o
 
-pub blocking_none : (ts cs ls : List ℕ) (i : ℕ) (old : List ℕ) → Blocking ts cs ls i old i 0 0 old
+pub blocking_none : (ts : List Entry) (cs ls : List ℕ) (i : ℕ) (old : List ℕ) → Blocking ts cs ls i old i 0 0 old
 blocking_none ts cs ls i old e q bs h = record { m = 0; q = q; rest = bs; is = h; at = writing_none (blocks_bytes bs) old }
 
-module _ (ts cs ls : List ℕ) (i₀ : ℕ) (old : List ℕ) (i n z : ℕ) (o : List ℕ) where
+module _ (ts : List Entry) (cs ls : List ℕ) (i₀ : ℕ) (old : List ℕ) (i n z : ℕ) (o : List ℕ) where
   record NextBlock (j e : ℕ) (bs : List PlacedBlock) : Type 0 where
     m : ℕ
     b : PlacedBlock
@@ -252,13 +254,13 @@ module _ (ts cs ls : List ℕ) (i₀ : ℕ) (old : List ℕ) (i n z : ℕ) (o : 
 
 -- ---- the code and the blocks
 
-record SegmentsAre (ts cs ls : List ℕ) (k e : ℕ) (c : Command) : Type 0 where
+record SegmentsAre (ts : List Entry) (cs ls : List ℕ) (k e : ℕ) (c : Command) : Type 0 where
   q : ℕ
   bs : List PlacedBlock
   blocks : read_blocks (bases_in ls) 0 0 q (parts_from colon e cs ts (k + 1)) ≡ ok bs
   bytes : body_bytes c ≡ word_bytes 1 (words_in true cs (take k ts)) ++ blocks_bytes bs
 
-module _ (ts cs ls : List ℕ) {k : ℕ} (f : k ≡ 0 + before 7 (drop 0 ts)) where
+module _ (ts : List Entry) (cs ls : List ℕ) {k : ℕ} (f : k ≡ 0 + before 7 (drop 0 ts)) where
   segments_are : (e : ℕ) (c : Command) → read_segs (bases_in ls) (split colon e (tokens_in cs ts)) ≡ ok c → SegmentsAre ts cs ls k e c
   segments_are e c h =
       let z : k - 0 ≡ k = omega arith in
@@ -311,7 +313,7 @@ module _ (ts cs ls : List ℕ) {k : ℕ} (f : k ≡ 0 + before 7 (drop 0 ts)) wh
 
 -- ---- the whole
 
-module _ (ts cs ls : List ℕ) where
+module _ (ts : List Entry) (cs ls : List ℕ) where
   abbrev first : ℕ
   first = 0 + before 9 (drop 0 ts)
 
@@ -320,18 +322,18 @@ module _ (ts cs ls : List ℕ) where
 
   -- a command that is read ends with its `;`, the first one and the last token
   whole_is : (n : ℕ) (c : Command) → read_cut (bases_in ls) n (cut_at semi (tokens_in cs ts)) ≡ ok c
-      → (1 ≤ length ts) × (read_segs (bases_in ls) (split colon (place_in (get_or ts last 0)) (tokens_in cs (take last ts))) ≡ ok c)
+      → (1 ≤ length ts) × (read_segs (bases_in ls) (split colon (place_in (get_or ts last no_token)) (tokens_in cs (take last ts))) ≡ ok c)
   whole_is n c h =
       by_bool (ltb first (length ts))
       (λ y. let l = ltb-true first (length ts) y in go l (drop (first + 1) ts) refl (rw (cut_at_lem semi cs ts refl l) at h))
       (λ y. ok≢bad (rw (cut_none semi cs ts refl (ltb-false first (length ts) y)) at h))
     where
-      go : first < length ts → (us : List ℕ) → drop (first + 1) ts ≡ us
-          → read_cut (bases_in ls) n (cut (tokens_in cs (take first ts)) (place_in (get_or ts first 0)) (tokens_in cs us)) ≡ ok c
-          → (1 ≤ length ts) × (read_segs (bases_in ls) (split colon (place_in (get_or ts last 0)) (tokens_in cs (take last ts))) ≡ ok c)
+      go : first < length ts → (us : List Entry) → drop (first + 1) ts ≡ us
+          → read_cut (bases_in ls) n (cut (tokens_in cs (take first ts)) (place_in (get_or ts first no_token)) (tokens_in cs us)) ≡ ok c
+          → (1 ≤ length ts) × (read_segs (bases_in ls) (split colon (place_in (get_or ts last no_token)) (tokens_in cs (take last ts))) ≡ ok c)
       go l [] e g =
           let z : first ≡ last = omega (arith, ap length e, length-drop (first + 1) ts) in
-          (omega arith, subst (λ (i : ℕ). read_segs (bases_in ls) (split colon (place_in (get_or ts i 0)) (tokens_in cs (take i ts))) ≡ ok c) z g)
+          (omega arith, subst (λ (i : ℕ). read_segs (bases_in ls) (split colon (place_in (get_or ts i no_token)) (tokens_in cs (take i ts))) ≡ ok c) z g)
       go l (u ∷ us) e g = ok≢bad g
 
   pub command_some : (o room : ℕ) → CommandFits ts cs ls o room → 1 ≤ length ts
@@ -344,7 +346,7 @@ module _ (ts cs ls : List ℕ) where
     pub command_segments : SegmentsFit (take last ts) cs ls (length (part xs head_size))
     command_segments =
         record {
-          end = place_in (get_or ts last 0);
+          end = place_in (get_or ts last no_token);
           c = w.c;
           is = (whole_is w.end w.c w.is).1;
           fits = room_behind (head_bytes o) (body_bytes w.c) old (refl, v) w.fits;
@@ -355,4 +357,4 @@ module _ (ts cs ls : List ℕ) where
     command_put p n c h =
         let is = (whole_is n c h).1 in
         let own : o ≡ count c = w.counted ∙ ap count (ok_inj (sym (whole_is w.end w.c w.is).1 ∙ is)) in
-        rw (← own) (chained (head_bytes o) (body_bytes c) old (refl, v) (p (place_in (get_or ts last 0)) c is))
+        rw (← own) (chained (head_bytes o) (body_bytes c) old (refl, v) (p (place_in (get_or ts last no_token)) c is))

@@ -8,10 +8,11 @@ use borrow.Author.Tests.{ltb-true, ltb-false}
 use mir.Syntax.{w64}
 use mir.Val.{Fits as Holds}
 use lib.Dec.{ltb}
-use lib.ListN.{length, get_or, take, drop, length-append}
+use lib.ListN.{length, get_or, take, drop, length-append, length-drop}
+use Rattle.std.proofs.Common.{take_all}
 use Rattle.rules.proofs.ReadSteps.{named_read, place_read}
 use Rattle.laws.specs.Cases.{by_bool}
-use Rattle.laws.specs.Over.{over, part, back, back_over, part_from}
+use Rattle.laws.specs.Over.{over, part, back, back_over}
 use Rattle.rules.specs.Commands.{Name, Element, place, seg, Cut, cut, uncut, cut_at, is_piece}
 use Rattle.rules.specs.Groups.{read_value}
 use Rattle.rules.specs.Reading.{Placed, placed, read_position, read_named, read_of_kind, read_place}
@@ -25,6 +26,8 @@ use Rattle.token_table.specs.Table.{place_in, tokens_in}
 use Rattle.value_fields.proofs.WriteLaws.{second_room}
 use Rattle.value_fields.specs.Writes.{Fits, PutValue}
 use Rattle.read_bases.specs.Bases.{bases_in, base_in}
+use Rattle.token_table.specs.declared.Token.{Token as Entry}
+use Rattle.token_table.proofs.KindLaws.{no_token}
 use Rattle.token_table.specs.Parts.{before, words_in, words_size}
 use Rattle.token_table.proofs.FindLaws.{cut_at_lem, cut_none}
 use Rattle.token_table.proofs.WordLaws.{pieces_words, words_bytes}
@@ -57,20 +60,24 @@ pieces_wrote t ws old w = (w.0 ∙ sym (words_bytes t ws), w.1)
 
 -- ---- name and value
 
+-- all tokens from the n-th on
+tokens_from : (ts : List Entry) (n : ℕ) → take (length ts - n) (drop n ts) ≡ drop n ts
+tokens_from ts n = take_all (length ts - n) (drop n ts) (simp length-drop (omega arith))
+
 -- a named place that is read, its `=` the k-th token
-pub record NamedIs (ts cs : List ℕ) (b : Base) (e k : ℕ) (x : Placed) : Type 0 where
+pub record NamedIs (ts : List Entry) (cs : List ℕ) (b : Base) (e k : ℕ) (x : Placed) : Type 0 where
   pub inside : k < length ts
   pub v : List Element
   pub value : read_value b (tokens_in cs (drop (k + 1) ts)) e ≡ ok v
   pub bytes : inner_bytes x ≡ word_bytes 4 (words_in true cs (take k ts)) ++ value_bytes v
 
-pub named_is : (ts cs : List ℕ) (b : Base) (ns : List Name) (e : ℕ) (x : Placed) {k : ℕ} → k ≡ 0 + before 8 (drop 0 ts)
+pub named_is : (ts : List Entry) (cs : List ℕ) (b : Base) (ns : List Name) (e : ℕ) (x : Placed) {k : ℕ} → k ≡ 0 + before 8 (drop 0 ts)
     → read_named b ns (cut_at equals (tokens_in cs ts)) e ≡ ok x → NamedIs ts cs b e k x
 named_is ts cs b ns e x {k} f h =
     by_bool (ltb k (length ts))
     (λ y.
     let l = ltb-true k (length ts) y in
-    let q = place_in (get_or ts k 0) in
+    let q = place_in (get_or ts k no_token) in
     let r = named_read b ns (tokens_in cs (take k ts)) q (tokens_in cs (drop (k + 1) ts)) e x (rw (cut_at_lem equals cs ts f l) at h) in
     let names : List Field = map (λ w. field 4 w) r.name in
     let own : inner_bytes x ≡ bytes_of (names ++ many element_fields r.v) = ap inner_bytes (sym r.is) in
@@ -82,7 +89,7 @@ named_is ts cs b ns e x {k} f h =
     })
     (λ y. ok≢bad (rw (cut_none equals cs ts f (ltb-false k (length ts) y)) at h))
 
-module _ (ts cs : List ℕ) (l k : ℕ) (f : k ≡ 0 + before 8 (drop 0 ts)) where
+module _ (ts : List Entry) (cs : List ℕ) (l k : ℕ) (f : k ≡ 0 + before 8 (drop 0 ts)) where
   module _ (room : ℕ) (w : NameFits ts cs l room) where
     is : NamedIs ts cs w.base w.end k w.x
     is = named_is ts cs w.base w.names w.end w.x f w.is
@@ -117,7 +124,7 @@ module _ (ts cs : List ℕ) (l k : ℕ) (f : k ≡ 0 + before 8 (drop 0 ts)) whe
     pub name_value : NameFits ts cs l (length old) → Fits (take (length ts - (k + 1)) (drop (k + 1) ts)) cs l (length (part xs p))
     name_value w =
         let i = is (length old) w in
-        rw (part_from ts (k + 1)) record {
+        rw (tokens_from ts (k + 1)) record {
           value = record { base = w.base; own = w.own; end = w.end; es = i.v; is = i.value };
           room = room_behind (word_bytes 4 (words_in true cs (take k ts))) (value_bytes i.v) old name (both (length old) w);
         }
@@ -125,7 +132,7 @@ module _ (ts cs : List ℕ) (l k : ℕ) (f : k ≡ 0 + before 8 (drop 0 ts)) whe
     pub name_put : {ys : List ℕ} {r : ℕ} → PutValue (take (length ts - (k + 1)) (drop (k + 1) ts)) cs l r (part xs p) ys → PutName ts cs l (p + r) old (back xs p ys)
     name_put {ys} {r} w b ns e x own h =
         let i = named_is ts cs b ns e x f h in
-        let u : PutValue (drop (k + 1) ts) cs l r (part xs p) ys = rw (part_from ts (k + 1)) at w in
+        let u : PutValue (drop (k + 1) ts) cs l r (part xs p) ys = rw (tokens_from ts (k + 1)) at w in
         rw i.bytes (chained (word_bytes 4 (words_in true cs (take k ts))) (value_bytes i.v) old name (u b e i.v own i.value))
 
 -- ---- a place
@@ -148,21 +155,21 @@ of_kind : (k : Bool) (bs : List Base) (n : ℕ) (ns : List Name) (ts : List Toke
 of_kind k bs n ns ts e x h = (place_read k bs n ns ts e x h).read
 
 -- a value by position
-record PositionIs (ts cs : List ℕ) (b : Base) (e : ℕ) (x : Placed) : Type 0 where
+record PositionIs (ts : List Entry) (cs : List ℕ) (b : Base) (e : ℕ) (x : Placed) : Type 0 where
   v : List Element
   value : read_value b (tokens_in cs ts) e ≡ ok v
   bytes : inner_bytes x ≡ value_bytes v
 
-position_is : (ts cs : List ℕ) (b : Base) (e : ℕ) (x : Placed) → 0 < length ts → read_position b (tokens_in cs ts) e ≡ ok x → PositionIs ts cs b e x
+position_is : (ts : List Entry) (cs : List ℕ) (b : Base) (e : ℕ) (x : Placed) → 0 < length ts → read_position b (tokens_in cs ts) e ≡ ok x → PositionIs ts cs b e x
 position_is [] cs b e x l h = absurd (omega arith)
 position_is (t ∷ ts) cs b e x l h =
     map_ok (λ v. placed (place_in t) (place b [] v)) (read_value b (tokens_in cs (t ∷ ts)) e) x h (λ v c r. record { v = v; value = c; bytes = rw (← r) })
 
-position_none : (ts cs : List ℕ) (b : Base) (e : ℕ) (x : Placed) → length ts ≤ 0 → read_position b (tokens_in cs ts) e ≡ ok x → inner_bytes x ≡ []
+position_none : (ts : List Entry) (cs : List ℕ) (b : Base) (e : ℕ) (x : Placed) → length ts ≤ 0 → read_position b (tokens_in cs ts) e ≡ ok x → inner_bytes x ≡ []
 position_none [] cs b e x l h = rw (← (ok_inj h))
 position_none (t ∷ ts) cs b e x l h = absurd (omega arith)
 
-module _ (ts cs ls : List ℕ) (k : Bool) (n l : ℕ) (g : l ≡ letter (base_in ls n)) where
+module _ (ts : List Entry) (cs ls : List ℕ) (k : Bool) (n l : ℕ) (g : l ≡ letter (base_in ls n)) where
   inner : (ns : List Name) (e : ℕ) (x : Placed) → read_place k (bases_in ls) n ns (seg (tokens_in cs ts) e) ≡ ok x
       → place_bytes x ≡ field_bytes (field 3 (l ∷ [])) ++ inner_bytes x
   inner ns e x h = rw g (own_field_lem k (base_in ls n) ns (tokens_in cs ts) e x (of_kind k (bases_in ls) n ns (tokens_in cs ts) e x h))

@@ -6,74 +6,59 @@ ghost use Rattle.std.specs.Prelude.{◌+◌, ◌≤◌, ◌≡◌, true, cond, [
 ghost use Rattle.laws.specs.Over.{over};
 ghost use Rattle.rules.specs.Characters.{byte};
 ghost use Rattle.rules.specs.Records.{field, field_bytes};
-ghost use Rattle.token_table.specs.Table.{content_in};
+ghost use Rattle.record_walk.specs.Tags.{number};
 ghost use Rattle.token_table.specs.Parts.{words_in, words_size};
 ghost use Rattle.command_fields.specs.Recorder.{word_bytes, NameFits, PutName, PlaceFits, PutPlace, PlacesFit, PutPlaces, BlockFits, PutBlock, BlocksFit, PutBlocks, SegmentsFit, PutSegments, CommandFits, PutCommand};
 
-use fields;
-use read_bases;
-use read_command;
-use record_head;
 use record_head::HEAD;
-use token_table;
-use value_fields;
+use record_walk::Tag;
+use token_table::{Kind, Token};
+
+// From one piece to the next: the piece and the `-` behind it.
+const STEP: usize = 2;
 
 // What was written: the number of bytes, and the number of places so far.
-#[derive(Clone, Copy)]
+#[derive(Clone, Copy, Debug, PartialEq, Eq)]
 pub struct Put {
     pub bytes: usize,
     pub places: usize,
 }
 
-// A field whose content is a token's.
-fn put_token(out: &mut [u8], tag: u8, contents: &[u8], t: u64) -> usize
-    requires { 3 + length (content_in contents.now t) ≤ length out.old }
-    ensures { (result ≡ 3 + length (content_in contents.now t))
-        × (out.new ≡ over (field_bytes (field tag (content_in contents.now t))) out.old) }
-{
-    let from = token_table::start(t, contents.len());
-    let to = token_table::end(t, contents.len());
-    fields::put_field(out, tag, &contents[from..to])
-}
-
 // The pieces of a code or of a name: a field for every other token.
-fn put_pieces(out: &mut [u8], tag: u8, toks: &[u64], contents: &[u8]) -> usize
+fn put_pieces(out: &mut [u8], tag: Tag, toks: &[Token], contents: &[u8]) -> usize
     requires { words_size (words_in true contents.now toks.now) ≤ length out.old }
     ensures { (result ≡ words_size (words_in true contents.now toks.now))
-        × (out.new ≡ over (word_bytes tag (words_in true contents.now toks.now)) out.old) }
+        × (out.new ≡ over (word_bytes (number tag) (words_in true contents.now toks.now)) out.old) }
 {
-    let mut i: usize = 0;
     let mut k: usize = 0;
-    while i < toks.len() {
-        k += put_token(&mut out[k..], tag, contents, toks[i]);
-        i += 2;
+    for t in toks.iter().step_by(STEP) {
+        k += fields::put_field(&mut out[k..], tag, t.content(contents));
     }
     k
 }
 
 // A field whose content is one byte.
-fn put_byte(out: &mut [u8], tag: u8, b: u8) -> usize
+fn put_byte(out: &mut [u8], tag: Tag, b: u8) -> usize
     requires { 4 ≤ length out.old }
-    ensures { (result ≡ 4) × (out.new ≡ over (field_bytes (field tag (b ∷ []))) out.old) }
+    ensures { (result ≡ 4) × (out.new ≡ over (field_bytes (field (number tag) (b ∷ []))) out.old) }
 {
-    let content = [b];
-    fields::put_field(out, tag, &content)
+    fields::put_field(out, tag, &[b])
 }
 
 // A named place's name and value.
-fn put_name(out: &mut [u8], toks: &[u64], contents: &[u8], base: u8) -> usize
+fn put_name(out: &mut [u8], toks: &[Token], contents: &[u8], base: u8) -> usize
     requires { NameFits toks.now contents.now base (length out.old) }
     ensures { PutName toks.now contents.now base result out.old out.new }
 {
-    let k = token_table::find(toks, 0, token_table::EQUALS);
-    let p = put_pieces(out, record_walk::NAME, &toks[..k], contents);
+    let k = token_table::find(toks, 0, Kind::Equals);
+    let p = put_pieces(out, Tag::Name, &toks[..k], contents);
     p + value_fields::put_value(&mut out[p..], &toks[k + 1..], contents, base)
 }
 
 // The n-th place of the command, named or not.
 fn put_place(
     out: &mut [u8],
-    toks: &[u64],
+    toks: &[Token],
     contents: &[u8],
     bases: &[u8],
     named: bool,
@@ -83,7 +68,7 @@ fn put_place(
     ensures { PutPlace toks.now contents.now bases.now named n result out.old out.new }
 {
     let base = read_bases::base(bases, n);
-    let p = put_byte(out, record_walk::PLACE, base);
+    let p = put_byte(out, Tag::Place, base);
     if named {
         return p + put_name(&mut out[p..], toks, contents, base);
     }
@@ -93,10 +78,10 @@ fn put_place(
     p
 }
 
-// The places of a block, the first of them the n-th of the command.
+// The places of a block, the first of them the n-th of the command. From one place to the next is no fixed step: each ends where the next `,` stands.
 fn put_places(
     out: &mut [u8],
-    toks: &[u64],
+    toks: &[Token],
     contents: &[u8],
     bases: &[u8],
     named: bool,
@@ -109,7 +94,7 @@ fn put_places(
     let mut n = first;
     let mut k: usize = 0;
     while i <= toks.len() {
-        let j = token_table::find(toks, i, token_table::COMMA);
+        let j = token_table::find(toks, i, Kind::Comma);
         k += put_place(&mut out[k..], &toks[i..j], contents, bases, named, n);
         n += 1;
         i = j + 1;
@@ -124,19 +109,16 @@ fn put_places(
 fn kind_letter(named: bool) -> u8
     ensures { result ≡ cond named (byte "N") (byte "P") }
 {
-    if named {
-        return b'N';
-    }
-    b'P'
+    if named { b'N' } else { b'P' }
 }
 
 // A block, its first place the n-th of the command.
-fn put_block(out: &mut [u8], toks: &[u64], contents: &[u8], bases: &[u8], first: usize) -> Put
+fn put_block(out: &mut [u8], toks: &[Token], contents: &[u8], bases: &[u8], first: usize) -> Put
     requires { BlockFits toks.now contents.now bases.now first (length out.old) }
     ensures { PutBlock toks.now contents.now bases.now first result.bytes result.places out.old out.new }
 {
     let named = read_command::is_named(toks);
-    let p = put_byte(out, record_walk::BLOCK, kind_letter(named));
+    let p = put_byte(out, Tag::Block, kind_letter(named));
     let r = put_places(&mut out[p..], toks, contents, bases, named, first);
     Put {
         bytes: p + r.bytes,
@@ -144,8 +126,8 @@ fn put_block(out: &mut [u8], toks: &[u64], contents: &[u8], bases: &[u8], first:
     }
 }
 
-// The blocks from the one that begins at index `from` on.
-fn put_blocks(out: &mut [u8], toks: &[u64], contents: &[u8], bases: &[u8], from: usize) -> usize
+// The blocks from the one that begins at index `from` on; each ends where the next `:` stands.
+fn put_blocks(out: &mut [u8], toks: &[Token], contents: &[u8], bases: &[u8], from: usize) -> usize
     requires { BlocksFit toks.now contents.now bases.now from (length out.old) }
     ensures { PutBlocks toks.now contents.now bases.now from result out.old out.new }
 {
@@ -153,7 +135,7 @@ fn put_blocks(out: &mut [u8], toks: &[u64], contents: &[u8], bases: &[u8], from:
     let mut n: usize = 0;
     let mut k: usize = 0;
     while i <= toks.len() {
-        let j = token_table::find(toks, i, token_table::COLON);
+        let j = token_table::find(toks, i, Kind::Colon);
         let r = put_block(&mut out[k..], &toks[i..j], contents, bases, n);
         k += r.bytes;
         n = r.places;
@@ -163,19 +145,19 @@ fn put_blocks(out: &mut [u8], toks: &[u64], contents: &[u8], bases: &[u8], from:
 }
 
 // The code and the blocks.
-fn put_segments(out: &mut [u8], toks: &[u64], contents: &[u8], bases: &[u8]) -> usize
+fn put_segments(out: &mut [u8], toks: &[Token], contents: &[u8], bases: &[u8]) -> usize
     requires { SegmentsFit toks.now contents.now bases.now (length out.old) }
     ensures { PutSegments toks.now contents.now bases.now result out.old out.new }
 {
-    let k = token_table::find(toks, 0, token_table::COLON);
-    let p = put_pieces(out, record_walk::CODE, &toks[..k], contents);
+    let k = token_table::find(toks, 0, Kind::Colon);
+    let p = put_pieces(out, Tag::Code, &toks[..k], contents);
     p + put_blocks(&mut out[p..], toks, contents, bases, k + 1)
 }
 
 // The record of a command with so many orders: its head, and the segments behind it, which are the tokens before the `;`, the last one. Returns how many bytes it wrote.
 pub fn put_command(
     out: &mut [u8],
-    toks: &[u64],
+    toks: &[Token],
     contents: &[u8],
     bases: &[u8],
     orders: u32,

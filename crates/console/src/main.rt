@@ -24,9 +24,12 @@ mod verbs;
 
 ghost use Rattle.std.specs.Prelude.{◌≡◌, length};
 
-use console_lines::{BLOCK, Got, Input};
-use console_replies::Outcome;
-use console_words::{Asked, Manner, Verb};
+use console_lines::{Input, Line};
+use console_replies::{Failure, Outcome, Reply};
+use console_window::Screen;
+use console_words::{Asked, Form, Manner, Status, Verb};
+use keys::Terminal;
+use std::fmt::Write;
 
 // Of a line that is longer than the longest command one byte more is kept, and the library refuses.
 const COMMAND_LINE: usize = rules::MOST_TEXT + 1;
@@ -39,37 +42,39 @@ const MOST_LIST: usize = 4194304;
 
 // Serves what the words ask, and tells what came of it.
 fn main(rt: HostRuntime) {
-    let manner = console_words::how(rt);
-    match console_words::what(rt, manner) {
-        Asked::Commands(verb) => console_words::tell(
-            manner,
-            console_replies::digit(serve_commands(rt, manner, verb)),
-        ),
-        Asked::Records(verb) => console_words::tell(
-            manner,
-            console_replies::digit(serve_records(rt, manner, verb)),
-        ),
-        Asked::Keys(columns) => console_words::tell(
-            manner,
-            console_replies::digit(serve_keys(rt, manner, columns)),
-        ),
-        Asked::Wrong => console_words::tell(manner, b'2'),
+    match console_words::how(rt) {
+        Some(manner) => manner.tell(answer(rt, manner)),
+        None => console_words::complain(),
     }
 }
 
-// Serves each line as a command. One verb alone needs room for a list.
-fn serve_commands(rt: HostRuntime, manner: Manner, verb: Verb) -> Outcome {
-    let mut none = [0u8; 0];
-    match verb {
-        Verb::List => serve_lists(rt, manner),
-        _ => serve_with(rt, manner, verb, &mut none),
+// Serves what the other words ask, and answers what came of it; what failed is said.
+fn answer(rt: HostRuntime, manner: Manner) -> Status {
+    let Some(asked) = console_words::what(rt) else {
+        console_words::complain();
+        return Status::WrongWords;
+    };
+    let reply = serve(rt, manner, asked);
+    if let Err(failure) = reply {
+        let _ = write!(Screen::ERR, "{failure}");
+    }
+    console_replies::status(reply)
+}
+
+// Serves each line, or each byte as a key. One verb alone needs room for a list.
+fn serve(rt: HostRuntime, manner: Manner, asked: Asked) -> Reply {
+    match asked {
+        Asked::Commands(Verb::List) => serve_lists(rt, manner),
+        Asked::Commands(verb) => serve_commands(rt, manner, verb, &mut []),
+        Asked::Records(form) => serve_records(rt, manner, form),
+        Asked::Keys(columns) => serve_keys(rt, manner, columns),
     }
 }
 
 // Serves each line as a command whose orders are to be listed. All lists use the same room.
-fn serve_lists(rt: HostRuntime, manner: Manner) -> Outcome {
+fn serve_lists(rt: HostRuntime, manner: Manner) -> Reply {
     let mut room = list_buffer();
-    serve_with(rt, manner, Verb::List, &mut room)
+    serve_commands(rt, manner, Verb::List, &mut room)
 }
 
 // Room for a list. The contract has its length alone, which is all that lending it needs.
@@ -80,105 +85,69 @@ fn list_buffer() -> [u8; MOST_LIST]
 }
 
 // Serves each line as a command, with room for its list.
-fn serve_with(rt: HostRuntime, manner: Manner, verb: Verb, room: &mut [u8]) -> Outcome {
+fn serve_commands(rt: HostRuntime, manner: Manner, verb: Verb, room: &mut [u8]) -> Reply {
     let mut letters = [0u8; BASES];
-    let n = console_words::bases(rt, &mut letters);
-    let mut block = io::buffer();
+    let bases = console_words::bases(rt, &mut letters);
     let mut line = [0u8; COMMAND_LINE];
-    serve(
-        rt,
-        manner,
-        verb,
-        console_figures::front(&letters, n),
-        &mut block,
-        &mut line,
-        room,
-    )
+    serve_lines(rt, manner, &mut line, |line| {
+        verbs::serve(rt, verb, bases, line.kept, room)
+    })
 }
 
 // Serves each byte as a key.
-fn serve_keys(rt: HostRuntime, manner: Manner, columns: u64) -> Outcome {
+fn serve_keys(rt: HostRuntime, manner: Manner, columns: u64) -> Reply {
     let mut letters = [0u8; BASES];
-    let n = console_words::bases(rt, &mut letters);
-    let mut block = io::buffer();
-    keys::serve(
+    let bases = console_words::bases(rt, &mut letters);
+    let terminal = Terminal {
         rt,
         manner,
         columns,
-        console_figures::front(&letters, n),
-        &mut block,
-    )
+        bases,
+    };
+    terminal.serve()
 }
 
 // Serves each line as a record.
-fn serve_records(rt: HostRuntime, manner: Manner, verb: Verb) -> Outcome {
-    let mut block = io::buffer();
+fn serve_records(rt: HostRuntime, manner: Manner, form: Form) -> Reply {
     let mut line = [0u8; RECORD_LINE];
-    let mut none = [0u8; 0];
-    serve(rt, manner, verb, b"", &mut block, &mut line, &mut none)
+    serve_lines(rt, manner, &mut line, |line| {
+        verbs::serve_record(form, line)
+    })
 }
 
-// Serves one line after the other, and answers the worst that came of one. No input has as many
-// lines as there are turns.
-fn serve(
+// Serves one line after the other, each put into `room`, and answers the worst that came of one. No input has as many lines as there are
+// turns.
+fn serve_lines<F: FnMut(Line<'_>) -> Reply>(
     rt: HostRuntime,
     manner: Manner,
-    verb: Verb,
-    bases: &[u8],
-    block: &mut [u8; BLOCK],
-    line: &mut [u8],
     room: &mut [u8],
-) -> Outcome {
-    let mut input = console_lines::start();
+    mut serve: F,
+) -> Reply
+    requires { F.IsAlwaysCallable serve }
+{
+    let mut input = Input::new(rt.stdin());
     let mut worst = Outcome::Served;
-    let mut turns = u64::MAX;
-    while 0 < turns {
-        match next_line(rt, manner, block, input, line) {
-            Got::End => {
-                return end(manner, worst);
-            }
-            Got::Failed => {
-                return console_replies::unread();
-            }
-            Got::Line { kept, long, rest } => {
-                let outcome = verbs::serve(
-                    rt,
-                    verb,
-                    bases,
-                    console_figures::front(line, kept),
-                    long,
-                    room,
-                );
-                if console_replies::is_failure(outcome) {
-                    return console_replies::unwritten();
-                }
-                worst = console_replies::worse(worst, outcome);
-                input = rest;
-            }
-        }
-        turns -= 1;
+    for _ in 0..u64::MAX {
+        let Some(line) = next_line(manner, &mut input, room)? else {
+            return end(manner, worst);
+        };
+        worst = console_replies::worse(worst, serve(line)?);
     }
-    Outcome::Failed
+    Err(Failure::Unasked)
 }
 
 // Asks for the next line, and reads it.
-fn next_line(
-    rt: HostRuntime,
+fn next_line<'a>(
     manner: Manner,
-    block: &mut [u8; BLOCK],
-    input: Input,
-    line: &mut [u8],
-) -> Got {
-    if console_words::prompt(manner, b"mml> ") {
-        return console_lines::next_line(rt.stdin(), block, input, line);
-    }
-    Got::Failed
+    input: &mut Input,
+    room: &'a mut [u8],
+) -> Result<Option<Line<'a>>, Failure> {
+    manner.prompt("mml> ").map_err(|_| Failure::Unread)?;
+    Ok(input.next_line(room)?)
 }
 
 // What came of all lines, at the end of the input. What is typed next stands in a new line.
-fn end(manner: Manner, worst: Outcome) -> Outcome {
-    if console_words::prompt(manner, b"\n") {
-        return worst;
-    }
-    Outcome::Failed
+fn end(manner: Manner, worst: Outcome) -> Reply {
+    manner.prompt("\n").map_err(|_| Failure::Unasked)?;
+    Ok(worst)
 }

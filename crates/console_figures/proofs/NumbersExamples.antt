@@ -4,7 +4,7 @@ use mathlib.Core.Path.{◌≡◌, refl}
 use mathlib.Core.List.{List, [], ◌∷◌, map}
 use Rattle.rules.specs.Characters.{bytes}
 use Rattle.console_figures.specs.Numbers.{hex_value, is_blank, number_from, number_of, good, wrong, pairs_from, pairs_of}
-use Rattle.console_figures.specs.declared.numbers.Number.TheVariants.{Is, Wrong}
+use Rattle.std.specs.Prelude.{Some, None}
 
 -- ---- decimal numbers
 
@@ -12,7 +12,7 @@ abbrev pub decimals : List String
 decimals = "0" ∷ "007" ∷ "18446744073709551615" ∷ "0018446744073709551615" ∷ "" ∷ "18446744073709551616" ∷ "99999999999999999999" ∷ "1A" ∷ "/" ∷ ":" ∷ " 1" ∷ []
 
 pub numbers : map (λ (s : String). number_of (bytes s)) decimals
-    ≡ Is 0 ∷ Is 7 ∷ Is 18446744073709551615 ∷ Is 18446744073709551615 ∷ Wrong ∷ Wrong ∷ Wrong ∷ Wrong ∷ Wrong ∷ Wrong ∷ Wrong ∷ []
+    ≡ Some 0 ∷ Some 7 ∷ Some 18446744073709551615 ∷ Some 18446744073709551615 ∷ None ∷ None ∷ None ∷ None ∷ None ∷ None ∷ None ∷ []
 unfolding number_of number_from
 numbers = refl
 

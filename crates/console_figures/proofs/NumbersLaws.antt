@@ -1,24 +1,20 @@
 -- The turns of the loops that read digits: what the rest of the text stands for, behind what is read, is what the text stands for.
 use mathlib.Core.Path.{◌≡◌, refl, sym, ap, ◌∙◌}
-use mathlib.Core.Option.{Option, none, some}
+use mathlib.Core.Option.{Option as Maybe, none, some}
 use mathlib.Core.Bool.{Bool, true, false, false≢true}
 use mathlib.Core.List.{List, [], ◌∷◌, ◌++◌}
 use Prim.Native.Nat.{ℕ, ◌+◌, ◌-◌, ◌*◌, ◌^◌, ◌<◌, ◌≤◌}
 use native.Mathlib.Omega.{arith}
-use borrow.Author.Tests.{lt-ltb, le-ltb, lt-leb, le-leb, leb-true, ltb-true, ltb-false}
+use borrow.Author.Tests.{ne_eqb, lt-ltb, le-ltb, lt-leb, le-leb, leb-true, ltb-true, ltb-false}
 use lib.ListN.{length, get_or, drop, set, drop_of_length-le, length-append, length-set, get_or-eq_default}
-use lib.Dec.{eqb, leb, ltb}
+use lib.Dec.{leb, ltb}
+use Rattle.std.specs.Prelude.{Option, Some, None, Result, Ok, Err}
 use Rattle.laws.specs.Cases.{by_bool, and_l, and_r, and_false, cond_by}
 use Rattle.laws.specs.Lists.{all, next}
 use Rattle.rules.specs.Characters.{is_digit, between}
 use Rattle.laws.specs.Over.{over, over_byte}
-use Rattle.console_figures.specs.Numbers.{hex_value, is_hex, is_blank, value_from, number_from, number_of, Pairs, good, wrong, pairs_from, pairs_of, pair_at}
-use Rattle.console_figures.specs.declared.numbers.Decoded.{Decoded}
-use Rattle.console_figures.specs.declared.numbers.Decoded.TheVariants.{Bytes, Wrong as WrongAt}
-use Rattle.console_figures.specs.declared.numbers.Pair.{Pair}
-use Rattle.console_figures.specs.declared.numbers.Pair.TheVariants.{Byte, Wrong as MissingAt}
-use Rattle.console_figures.specs.declared.numbers.Number.{Number}
-use Rattle.console_figures.specs.declared.numbers.Number.TheVariants.{Is, Wrong}
+use Rattle.console_figures.specs.Numbers.{hex_value, is_hex, digit_of, is_blank, value_from, number_from, number_of, Pairs, out_of_place, good, wrong, pairs_from, pairs_of, digit_at, pair_at}
+use Rattle.console_figures.specs.declared.numbers.OutOfPlace.{OutOfPlace}
 
 -- ---- digits
 
@@ -52,13 +48,36 @@ high c n =
 decimal_yes : (c : ℕ) → hex_value c ≤ 9 → is_digit c ≡ true
 decimal_yes c h = by_bool (is_digit c) (λ y. y) (λ y. absurd (omega (arith, high c y)))
 
-pub blank_below : (c : ℕ) → c < 9 → eqb c 32 ≡ is_blank c
-unfolding is_blank
-blank_below c h = rw (lt-leb 9 c h)
+-- a digit found, and none found
+some_inj : {a b : ℕ} → ◌≡◌ {A = Option ℕ} (Some a) (Some b) → a ≡ b
+some_inj h = cc
 
-pub blank_above : (c : ℕ) → 14 ≤ c → eqb c 32 ≡ is_blank c
+some≢none : {C : Type 0} {a : ℕ} → ◌≡◌ {A = Option ℕ} (Some a) None → C
+some≢none h = let z : ◌≡◌ {A = ℕ} 0 1 = cc in absurd (omega arith)
+
+pub digit_is : (c : ℕ) {d : ℕ} → digit_of c ≡ Some d → (is_hex c ≡ true) × (d ≡ hex_value c)
+digit_is c q = by_bool (is_hex c) (λ y. (y, sym (some_inj (rw y at q)))) (λ n. some≢none (sym (rw n at q)))
+
+pub digit_none : (c : ℕ) → digit_of c ≡ None → is_hex c ≡ false
+digit_none c q = by_bool (is_hex c) (λ y. some≢none (rw y at q)) (λ n. n)
+
+-- ---- white space
+
+pub blank_in : (c : ℕ) → 9 ≤ c → c ≤ 13 → true ≡ is_blank c
 unfolding is_blank
-blank_above c h = rw (le-leb 9 c (omega arith), lt-leb c 13 h)
+blank_in c h k = rw (le-leb 9 c h, le-leb c 13 k)
+
+pub blank_space : (c : ℕ) → c ≡ 32 → true ≡ is_blank c
+unfolding is_blank
+blank_space c e = rw e
+
+pub blank_below : (c : ℕ) → c < 9 → false ≡ is_blank c
+unfolding is_blank
+blank_below c h = rw (lt-leb 9 c h, ne_eqb c 32 (λ e. absurd (omega arith)))
+
+pub blank_above : (c : ℕ) → 13 < c → (c ≡ 32 → ⊥) → false ≡ is_blank c
+unfolding is_blank
+blank_above c h n = rw (lt-leb c 13 h, ne_eqb c 32 n, and_false (leb 9 c))
 
 -- ---- decimal numbers
 
@@ -68,10 +87,10 @@ grows [] v = omega arith
 grows (c ∷ cs) v = omega (arith, grows cs (v * 10 + (c - 48)))
 
 -- the number that the digits from position i on write, behind digits of value v
-unfoldable pub number_at : List ℕ → ℕ → ℕ → Number
+unfoldable pub number_at : List ℕ → ℕ → ℕ → Option ℕ
 number_at s i v = number_from v (drop i s)
 
-pub number_none : (s : List ℕ) → length s ≡ 0 → Wrong ≡ number_of s
+pub number_none : (s : List ℕ) → length s ≡ 0 → None ≡ number_of s
 unfolding number_of
 number_none [] h = refl
 number_none (c ∷ cs) h = absurd (omega arith)
@@ -82,63 +101,101 @@ number_start [] h = absurd (h refl)
 number_start (c ∷ cs) h = refl
 
 module _ (s : List ℕ) (i v : ℕ) where
-  pub number_end : {r : Number} → r ≡ number_at s i v → length s ≤ i → v < 2 ^ 64 → Is v ≡ r
+  pub number_end : {r : Option ℕ} → r ≡ number_at s i v → length s ≤ i → v < 2 ^ 64 → Some v ≡ r
   unfolding number_at number_from
   number_end q h k = sym (q ∙ rw (drop_of_length-le s h, lt-ltb v (2 ^ 64) k))
 
-  pub number_stop : {d : ℕ} {r : Number} → r ≡ number_at s i v → i < length s → d ≡ hex_value (get_or s i 0) → 9 < d → Wrong ≡ r
+  stopped : {r : Option ℕ} → r ≡ number_at s i v → i < length s → is_digit (get_or s i 0) ≡ false → None ≡ r
   unfolding number_at number_from
-  number_stop q h e t = sym (q ∙ rw (next s i h, decimal_no (get_or s i 0) (omega arith)))
+  stopped q h n = sym (q ∙ rw (next s i h, n))
 
-  pub number_big : {d : ℕ} {r : Number} → r ≡ number_at s i v → i < length s → d ≡ hex_value (get_or s i 0) → d ≤ 9
-      → 2 ^ 64 ≤ v * 10 + d → Wrong ≡ r
+  -- no digit at all
+  pub number_other : {r : Option ℕ} → r ≡ number_at s i v → i < length s → digit_of (get_or s i 0) ≡ None → None ≡ r
+  number_other q h e =
+      let c = get_or s i 0 in
+      let k : 16 ≤ hex_value c = ltb-false (hex_value c) 16 (digit_none c e) in
+      stopped q h (decimal_no c (omega arith))
+
+  -- a digit above 9
+  pub number_stop : {d : ℕ} {r : Option ℕ} → r ≡ number_at s i v → i < length s → digit_of (get_or s i 0) ≡ Some d → 9 < d → None ≡ r
+  number_stop q h e t = let k = (digit_is (get_or s i 0) e).1 in stopped q h (decimal_no (get_or s i 0) (omega arith))
+
+  pub number_big : {d : ℕ} {r : Option ℕ} → r ≡ number_at s i v → i < length s → digit_of (get_or s i 0) ≡ Some d → d ≤ 9
+      → 2 ^ 64 ≤ v * 10 + d → None ≡ r
   unfolding number_at number_from
   number_big q h e t k =
       let c = get_or s i 0 in
+      let same = (digit_is c e).1 in
       let y : is_digit c ≡ true = decimal_yes c (omega arith) in
       let w : 2 ^ 64 ≤ value_from (v * 10 + (c - 48)) (drop (i + 1) s)
       = omega (arith, decimal_value c y, grows (drop (i + 1) s) (v * 10 + (c - 48))) in
       sym (q ∙ rw (next s i h, y, le-ltb _ _ w, and_false (all is_digit (drop (i + 1) s))))
 
-  pub number_more : {d : ℕ} {r : Number} → r ≡ number_at s i v → i < length s → d ≡ hex_value (get_or s i 0) → d ≤ 9
+  pub number_more : {d : ℕ} {r : Option ℕ} → r ≡ number_at s i v → i < length s → digit_of (get_or s i 0) ≡ Some d → d ≤ 9
       → r ≡ number_at s (i + 1) (v * 10 + d)
   unfolding number_at number_from
   number_more q h e t =
+      let same = (digit_is (get_or s i 0) e).1 in
       let y : is_digit (get_or s i 0) ≡ true = decimal_yes (get_or s i 0) (omega arith) in
-      q ∙ rw (e, decimal_value (get_or s i 0) y, next s i h, y)
+      q ∙ rw (same, decimal_value (get_or s i 0) y, next s i h, y)
 
 -- ---- pairs of hexadecimal digits
-
-hex_no : {d : ℕ} (c : ℕ) → d ≡ hex_value c → d ≡ 16 → is_hex c ≡ false
-hex_no c e t = le-ltb (hex_value c) 16 (omega arith)
-
-hex_yes : {d : ℕ} (c : ℕ) → d ≡ hex_value c → (d ≡ 16 → ⊥) → is_hex c ≡ true
-hex_yes c e t = lt-ltb (hex_value c) 16 (omega (arith, hex_most c))
 
 -- past the end there is no digit
 past_none : (s : List ℕ) (i : ℕ) → length s ≤ i → is_hex (get_or s i 0) ≡ false
 unfolding hex_value
 past_none s i h = rw (get_or-eq_default s 0 h)
 
+-- the digit at place i
+pub at_past : (s : List ℕ) (i : ℕ) → length s ≤ i → Err (out_of_place i) ≡ digit_at s i
+unfolding digit_at
+at_past s i h = rw (past_none s i h)
+
+pub at_digit : (s : List ℕ) (i : ℕ) {d : ℕ} → digit_of (get_or s i 0) ≡ Some d → Ok d ≡ digit_at s i
+unfolding digit_at
+at_digit s i q = let e = digit_is (get_or s i 0) q in rw (e.0, e.1)
+
+pub at_none : (s : List ℕ) (i : ℕ) → digit_of (get_or s i 0) ≡ None → Err (out_of_place i) ≡ digit_at s i
+unfolding digit_at
+at_none s i q = rw (digit_none (get_or s i 0) q)
+
+ok_inj : {a b : ℕ} → ◌≡◌ {A = Result ℕ OutOfPlace} (Ok a) (Ok b) → a ≡ b
+ok_inj h = cc
+
+err_same : {e f : OutOfPlace} → ◌≡◌ {A = Result ℕ OutOfPlace} (Err e) (Err f) → e ≡ f
+err_same h = cc
+
+err_inj : {a b : ℕ} → ◌≡◌ {A = Result ℕ OutOfPlace} (Err (out_of_place a)) (Err (out_of_place b)) → a ≡ b
+err_inj h = ap (λ (e : OutOfPlace). e.place) (err_same h)
+
+ok≢err : {C : Type 0} {a : ℕ} {b : OutOfPlace} → ◌≡◌ {A = Result ℕ OutOfPlace} (Ok a) (Err b) → C
+ok≢err h = let z : ◌≡◌ {A = ℕ} 0 1 = cc in absurd (omega arith)
+
+digit_ok : (s : List ℕ) (i : ℕ) {d : ℕ} → digit_at s i ≡ Ok d → (is_hex (get_or s i 0) ≡ true) × (d ≡ hex_value (get_or s i 0))
+unfolding digit_at
+digit_ok s i q = by_bool (is_hex (get_or s i 0)) (λ y. (y, sym (ok_inj (rw y at q)))) (λ n. ok≢err (sym (rw n at q)))
+
+digit_err : (s : List ℕ) (i : ℕ) {e : OutOfPlace} → digit_at s i ≡ Err e → (is_hex (get_or s i 0) ≡ false) × (◌≡◌ {A = Result ℕ OutOfPlace} (Err e) (Err (out_of_place i)))
+unfolding digit_at
+digit_err s i q = by_bool (is_hex (get_or s i 0)) (λ y. ok≢err (rw y at q)) (λ n. (n, sym (rw n at q)))
+
 -- the pair at place i, by its two digits
 module _ (s : List ℕ) (i : ℕ) where
-  pub pair_first : {d : ℕ} → d ≡ hex_value (get_or s i 0) → d ≡ 16 → MissingAt i ≡ pair_at s i
+  pub pair_first : {e : OutOfPlace} → digit_at s i ≡ Err e → Err e ≡ pair_at s i
   unfolding pair_at
-  pair_first e t = rw (hex_no (get_or s i 0) e t)
+  pair_first q = let d = digit_err s i q in d.1 ∙ rw (d.0)
 
-  pub pair_end : {d : ℕ} → d ≡ hex_value (get_or s i 0) → (d ≡ 16 → ⊥) → i + 1 ≡ length s → MissingAt (i + 1) ≡ pair_at s i
+  pub pair_second : {d : ℕ} {e : OutOfPlace} → digit_at s i ≡ Ok d → digit_at s (i + 1) ≡ Err e → Err e ≡ pair_at s i
   unfolding pair_at
-  pair_end e t h = rw (hex_yes (get_or s i 0) e t, past_none s (i + 1) (omega arith))
+  pair_second q r = let d = digit_ok s i q in let f = digit_err s (i + 1) r in f.1 ∙ rw (d.0, f.0)
 
-  pub pair_second : {d l : ℕ} → d ≡ hex_value (get_or s i 0) → (d ≡ 16 → ⊥) → l ≡ hex_value (get_or s (i + 1) 0) → l ≡ 16
-      → MissingAt (i + 1) ≡ pair_at s i
+  pub pair_both : {d l : ℕ} → digit_at s i ≡ Ok d → digit_at s (i + 1) ≡ Ok l → Ok (d * 16 + l) ≡ pair_at s i
   unfolding pair_at
-  pair_second e t f u = rw (hex_yes (get_or s i 0) e t, hex_no (get_or s (i + 1) 0) f u)
+  pair_both q r = let d = digit_ok s i q in let f = digit_ok s (i + 1) r in rw (d.0, f.0, d.1, f.1)
 
-  pub pair_both : {d l : ℕ} → d ≡ hex_value (get_or s i 0) → (d ≡ 16 → ⊥) → l ≡ hex_value (get_or s (i + 1) 0) → (l ≡ 16 → ⊥)
-      → Byte (d * 16 + l) ≡ pair_at s i
-  unfolding pair_at
-  pair_both e t f u = rw (hex_yes (get_or s i 0) e t, hex_yes (get_or s (i + 1) 0) f u, e, f)
+  -- a digit's value is below 16
+  pub digit_low : {d : ℕ} → digit_at s i ≡ Ok d → d < 16
+  digit_low q = let d = digit_ok s i q in let t = ltb-true (hex_value (get_or s i 0)) 16 d.0 in omega (arith, d.1)
 
 inside : (s : List ℕ) (i : ℕ) → is_hex (get_or s i 0) ≡ true → i < length s
 inside s i y =
@@ -146,7 +203,7 @@ inside s i y =
     (λ t. absurd (false≢true (sym (past_none s i (ltb-false i (length s) t)) ∙ y)))
 
 -- what the bytes from place i on give
-unfoldable pub pairs_at : Option ℕ → ℕ → List ℕ → List ℕ → ℕ → Pairs
+unfoldable pub pairs_at : Maybe ℕ → ℕ → List ℕ → List ℕ → ℕ → Pairs
 pairs_at o room done s i = pairs_from (drop i s) o room done i
 
 -- one byte of the text
@@ -185,39 +242,30 @@ module _ (room : ℕ) (done s : List ℕ) (i : ℕ) where
 
 -- ---- the turns of the loop that reads pairs
 
-byte_inj : {a b : ℕ} → ◌≡◌ {A = Pair} (Byte a) (Byte b) → a ≡ b
-byte_inj h = cc
-
-missing_inj : {a b : ℕ} → ◌≡◌ {A = Pair} (MissingAt a) (MissingAt b) → a ≡ b
-missing_inj h = cc
-
-byte≢missing : {C : Type 0} {a b : ℕ} → ◌≡◌ {A = Pair} (Byte a) (MissingAt b) → C
-byte≢missing h = let z : ◌≡◌ {A = ℕ} 0 1 = cc in absurd (omega arith)
-
 module _ (room : ℕ) (done s : List ℕ) (i : ℕ) (h : i < length s) (b : is_blank (get_or s i 0) ≡ false) (k : length done < room) where
-  at_pair : (v : ℕ) → pair_at s i ≡ Byte v → pairs_at none room done s i ≡ pairs_at none room (done ++ (v ∷ [])) s (i + 2)
+  at_pair : (v : ℕ) → pair_at s i ≡ Ok v → pairs_at none room done s i ≡ pairs_at none room (done ++ (v ∷ [])) s (i + 2)
   unfolding pair_at
   at_pair v q =
       by_bool (is_hex (get_or s i 0))
       (λ y. by_bool (is_hex (get_or s (i + 1) 0))
       (λ z.
-      let e : hex_value (get_or s i 0) * 16 + hex_value (get_or s (i + 1) 0) ≡ v = byte_inj (rw (y, z) at q) in
+      let e : hex_value (get_or s i 0) * 16 + hex_value (get_or s (i + 1) 0) ≡ v = ok_inj (rw (y, z) at q) in
       let j : i + 1 + 1 ≡ i + 2 = omega arith in
       rw (← j, ← e) (at_first room done s i h b k y ∙ at_second room done s (i + 1) (hex_value (get_or s i 0)) z))
-      (λ n. byte≢missing (sym (rw (y, n) at q))))
-      (λ n. byte≢missing (sym (rw n at q)))
+      (λ n. ok≢err (sym (rw (y, n) at q))))
+      (λ n. ok≢err (sym (rw n at q)))
 
-  at_wrong : (p : ℕ) → pair_at s i ≡ MissingAt p → pairs_at none room done s i ≡ wrong done p
+  at_wrong : (p : ℕ) → pair_at s i ≡ Err (out_of_place p) → pairs_at none room done s i ≡ wrong done p
   unfolding pair_at
   at_wrong p q =
       by_bool (is_hex (get_or s i 0))
       (λ y. by_bool (is_hex (get_or s (i + 1) 0))
-      (λ z. byte≢missing (rw (y, z) at q))
+      (λ z. ok≢err (rw (y, z) at q))
       (λ n.
-      let e : i + 1 ≡ p = missing_inj (rw (y, n) at q) in
+      let e : i + 1 ≡ p = err_inj (rw (y, n) at q) in
       rw (← e) (at_first room done s i h b k y ∙ at_missing room done s (i + 1) (hex_value (get_or s i 0)) n)))
       (λ n.
-      let e : i ≡ p = missing_inj (rw n at q) in
+      let e : i ≡ p = err_inj (rw n at q) in
       rw (← e) (at_other room done s i h b n))
 
 -- the bytes of the pairs before place i stand at the start of the buffer, and what the rest gives behind them is what the text gives
@@ -234,15 +282,15 @@ unfolding pairs_of pairs_at
 reading_none old s = record { done = []; same = refl; is = refl; size = refl; room = omega arith; long = refl }
 
 -- what `decode` promises
-abbrev pub Promise : List ℕ → List ℕ → List ℕ → Decoded → Type 0
+abbrev pub Promise : List ℕ → List ℕ → List ℕ → Result ℕ OutOfPlace → Type 0
 Promise old s out r = (r ≡ (pairs_of (length old) s).answer) × (out ≡ over (pairs_of (length old) s).bytes old)
 
 module _ {old s out : List ℕ} {i n : ℕ} (v : Reading old s out i n) where
-  promised : (a : Decoded) → pairs_of (length old) s ≡ record { bytes = v.done; answer = a } → Promise old s out a
+  promised : (a : Result ℕ OutOfPlace) → pairs_of (length old) s ≡ record { bytes = v.done; answer = a } → Promise old s out a
   promised a e = rw e (refl, v.is)
 
-  pub reading_end : length s ≤ i → Promise old s out (Bytes n)
-  reading_end h = rw (← v.size) (promised (Bytes (length v.done)) (v.same ∙ at_end (length old) v.done s i h))
+  pub reading_end : length s ≤ i → Promise old s out (Ok n)
+  reading_end h = rw (← v.size) (promised (Ok (length v.done)) (v.same ∙ at_end (length old) v.done s i h))
 
   module _ (h : i < length s) {t : Bool} (e : t ≡ is_blank (get_or s i 0)) where
     pub reading_blank : t ≡ true → Reading old s out (i + 1) n
@@ -255,16 +303,19 @@ module _ {old s out : List ℕ} {i n : ℕ} (v : Reading old s out i n) where
       long = v.long;
     }
 
-    pub reading_full : t ≡ false → length out ≤ n → Promise old s out (WrongAt i)
+    pub reading_full : t ≡ false → length out ≤ n → Promise old s out (Err (out_of_place i))
     reading_full y k =
-        promised (WrongAt i) (v.same ∙ at_full (length old) v.done s i h (sym e ∙ y) (omega (arith, v.size, v.long)))
+        promised (Err (out_of_place i)) (v.same ∙ at_full (length old) v.done s i h (sym e ∙ y) (omega (arith, v.size, v.long)))
 
-    pub reading_wrong : t ≡ false → n < length out → (p : ℕ) → pair_at s i ≡ MissingAt p → Promise old s out (WrongAt p)
+    pub reading_wrong : t ≡ false → n < length out → (p : ℕ) → pair_at s i ≡ Err (out_of_place p) → Promise old s out (Err (out_of_place p))
     reading_wrong y k p q =
         let r : length v.done < length old = omega (arith, v.size, v.long) in
-        promised (WrongAt p) (v.same ∙ at_wrong (length old) v.done s i h (sym e ∙ y) r p q)
+        promised (Err (out_of_place p)) (v.same ∙ at_wrong (length old) v.done s i h (sym e ∙ y) r p q)
 
-    pub reading_pair : t ≡ false → n < length out → (b : ℕ) → pair_at s i ≡ Byte b → Reading old s (set out n b) (i + 2) (n + 1)
+    pub reading_err : t ≡ false → n < length out → {e : OutOfPlace} {r : Result ℕ OutOfPlace} → pair_at s i ≡ Err e → r ≡ Err e → Promise old s out r
+    reading_err y k {e = e} q z = let p = reading_wrong y k e.place q in rw z p
+
+    pub reading_pair : t ≡ false → n < length out → (b : ℕ) → pair_at s i ≡ Ok b → Reading old s (set out n b) (i + 2) (n + 1)
     reading_pair y k b q =
         let r : length v.done < length old = omega (arith, v.size, v.long) in
         record {

@@ -2,8 +2,7 @@
 use Rattle.std.specs.Prelude.{ℕ, zero, suc, ◌+◌, ◌-◌, cond, List, [], ◌∷◌, ◌++◌, eqb, length, get_or, take, drop}
 use Rattle.rules.specs.Characters.{byte}
 use Rattle.rules.specs.Records.{single_tag, code_tag, block_tag, place_tag, field, bytes_of, head_size}
-use Rattle.console_figures.specs.declared.asked.Member.{Member}
-use Rattle.console_figures.specs.declared.asked.Member.TheVariants.{At, Absent}
+use Rattle.std.specs.Prelude.{Option, Some, None}
 
 -- the text: `A:`, the argument, `;`
 abbrev pub asked : List ℕ → List ℕ
@@ -22,6 +21,6 @@ abbrev pub argument_fields : List ℕ → List ℕ
 argument_fields r = cond (eqb (get_or (drop value_at r) 0 0) single_tag) (drop (value_at + 3) r) (drop value_at r)
 
 -- M-107: "say no (with 0) or yes with the first position", which is the answer less one
-abbrev pub member_of : ℕ → Member
-member_of zero = Absent
-member_of (suc n) = At n
+abbrev pub member_of : ℕ → Option ℕ
+member_of zero = None
+member_of (suc n) = Some n

@@ -1,18 +1,14 @@
 -- Numbers as text: decimal numbers, and bytes as pairs of hexadecimal digits.
 use Rattle.std.specs.Prelude.{ℕ, ◌+◌, ◌-◌, ◌*◌, ◌^◌, Bool, cond, ◌&&◌, List, [], ◌∷◌, ◌++◌, ltb, length, get_or}
-use Rattle.std.proofs.Math.Option.{Option, none, some}
+use Rattle.std.specs.Prelude.{Option, Some, None, Result, Ok, Err}
+use Rattle.std.proofs.Math.Option.{Option as Maybe, none, some}
 use Rattle.laws.specs.Lists.{all, is_nil}
 use Rattle.rules.specs.Characters.{byte, between, is_digit, is_effector}
-use Rattle.console_figures.specs.declared.numbers.Number.{Number}
-use Rattle.console_figures.specs.declared.numbers.Number.TheVariants.{Is, Wrong}
-use Rattle.console_figures.specs.declared.numbers.Decoded.{Decoded}
-use Rattle.console_figures.specs.declared.numbers.Decoded.TheVariants.{Bytes, Wrong as WrongAt}
-use Rattle.console_figures.specs.declared.numbers.Pair.{Pair}
-use Rattle.console_figures.specs.declared.numbers.Pair.TheVariants.{Byte, Wrong as MissingAt}
+use Rattle.console_figures.specs.declared.numbers.OutOfPlace.{OutOfPlace}
 
 -- ---- digits
 
--- what `hex_value` answers for a byte that is no hexadecimal digit
+-- above the value of every digit: what is here for a byte that is no hexadecimal digit
 abbrev pub no_digit : ℕ
 no_digit = 16
 
@@ -25,6 +21,10 @@ hex_value c =
 
 abbrev pub is_hex : ℕ → Bool
 is_hex c = ltb (hex_value c) no_digit
+
+-- its value, if it is one
+abbrev pub digit_of : ℕ → Option ℕ
+digit_of c = cond (is_hex c) (Some (hex_value c)) None
 
 -- white space: the format effectors
 unfoldable pub is_blank : ℕ → Bool
@@ -42,31 +42,35 @@ abbrev pub fits : ℕ → Bool
 fits v = ltb v (2 ^ 64)
 
 -- the number that digits write behind digits of value v
-unfoldable pub number_from : ℕ → List ℕ → Number
-number_from v text = cond (all is_digit text && fits (value_from v text)) (Is (value_from v text)) Wrong
+unfoldable pub number_from : ℕ → List ℕ → Option ℕ
+number_from v text = cond (all is_digit text && fits (value_from v text)) (Some (value_from v text)) None
 
 -- the number that a text writes: one or more decimal digits, of a value that has 64 bits
-unfoldable pub number_of : List ℕ → Number
-number_of text = cond (is_nil text) Wrong (number_from 0 text)
+unfoldable pub number_of : List ℕ → Option ℕ
+number_of text = cond (is_nil text) None (number_from 0 text)
 
 -- ---- bytes as pairs of hexadecimal digits
 
 -- what a text gives: the bytes of the pairs up to its end or its first byte out of place, and the answer
 pub record Pairs : Type 0 where
   pub bytes : List ℕ
-  pub answer : Decoded
+  pub answer : Result ℕ OutOfPlace
+
+-- the byte at place i is out of place
+abbrev pub out_of_place : ℕ → OutOfPlace
+out_of_place i = record { place = i }
 
 -- no byte is out of place
 abbrev pub good : List ℕ → Pairs
-good done = record { bytes = done; answer = Bytes (length done) }
+good done = record { bytes = done; answer = Ok (length done) }
 
 -- the byte at place i is out of place: the text's length where it ends too soon
 abbrev pub wrong : List ℕ → ℕ → Pairs
-wrong done i = record { bytes = done; answer = WrongAt i }
+wrong done i = record { bytes = done; answer = Err (out_of_place i) }
 
 -- a text byte by byte, its first byte at place i, where `done` are the bytes of the pairs before, and there is room for so many:
 -- between pairs (`none`) stands white space or a first digit, behind a first digit of value h (`some h`) a second
-unfoldable pub pairs_from : List ℕ → Option ℕ → ℕ → List ℕ → ℕ → Pairs
+unfoldable pub pairs_from : List ℕ → Maybe ℕ → ℕ → List ℕ → ℕ → Pairs
 pairs_from [] none room done i = good done
 pairs_from [] (some h) room done i = wrong done i
 pairs_from (c ∷ cs) none room done i =
@@ -81,9 +85,13 @@ pairs_from (c ∷ cs) (some h) room done i =
 unfoldable pub pairs_of : ℕ → List ℕ → Pairs
 pairs_of room text = pairs_from text none room [] 0
 
--- the byte whose two digits stand at place i, or the place of the one that is missing (past the end `get_or` gives 0, no digit)
-unfoldable pub pair_at : List ℕ → ℕ → Pair
+-- the value of the digit at place i, or that place (past the end `get_or` gives 0, no digit)
+unfoldable pub digit_at : List ℕ → ℕ → Result ℕ OutOfPlace
+digit_at s i = cond (is_hex (get_or s i 0)) (Ok (hex_value (get_or s i 0))) (Err (out_of_place i))
+
+-- the byte whose two digits stand at place i, or the place of the one that is missing
+unfoldable pub pair_at : List ℕ → ℕ → Result ℕ OutOfPlace
 pair_at s i =
     let high = get_or s i 0 in
     let low = get_or s (i + 1) 0 in
-    cond (is_hex high) (cond (is_hex low) (Byte (hex_value high * 16 + hex_value low)) (MissingAt (i + 1))) (MissingAt i)
+    cond (is_hex high) (cond (is_hex low) (Ok (hex_value high * 16 + hex_value low)) (Err (out_of_place (i + 1)))) (Err (out_of_place i))

@@ -3,6 +3,8 @@ ghost use Rattle.std.specs.Prelude.{◌≡◌, ◌+◌, ◌*◌, ◌<◌, ◌++�
 ghost use Rattle.laws.specs.Over.{over};
 ghost use Rattle.console_figures.specs.Letters.{letters_for, kept_at};
 
+use record_walk::Tag;
+
 // Puts the base letters of a record's places to the start of `bases`, as many as fit, and answers
 // how many.
 pub fn own_bases(rec: &[u8], bases: &mut [u8]) -> usize
@@ -10,6 +12,7 @@ pub fn own_bases(rec: &[u8], bases: &mut [u8]) -> usize
 {
     let mut at = 0;
     let mut n = 0;
+    // Each field says how many bytes it takes, so no `for` is plainer.
     while at < rec.len() {
         n = keep_base(rec, at, bases, n);
         at += record_walk::HEADER + content_length(rec, at);
@@ -23,7 +26,7 @@ fn keep_base(rec: &[u8], at: usize, bases: &mut [u8], n: usize) -> usize
     requires { at < length rec.now }
     ensures { (result ≡ n + length (kept_at (length bases.old) n rec.now at)) × (bases.new ≡ take n bases.old ++ over (kept_at (length bases.old) n rec.now at) (drop n bases.old)) }
 {
-    if rec[at] != record_walk::PLACE {
+    if rec[at] != Tag::Place as u8 {
         return n;
     }
     if bases.len() <= n {
@@ -47,5 +50,5 @@ fn content_length(rec: &[u8], at: usize) -> usize
 fn byte(bytes: &[u8], at: usize) -> u8
     ensures { result ≡ get_or bytes.now at 0 }
 {
-    if at < bytes.len() { bytes[at] } else { 0 }
+    bytes.get(at).copied().unwrap_or(0)
 }

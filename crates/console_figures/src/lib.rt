@@ -9,18 +9,14 @@ mod pieces;
 
 ghost use Rattle.std.specs.Prelude.{◌≡◌, take};
 
-pub use asked::{BEFORE, BEHIND, Member, argument_fields, argument_text, found, put_asked};
+pub use asked::{BEFORE, BEHIND, argument_fields, argument_text, found, put_asked};
 pub use letters::own_bases;
-pub use numbers::{Decoded, Number, decimal, decode};
+pub use numbers::{OutOfPlace, decimal, decode};
 pub use pieces::{LENGTH_FIELD, first_order};
 
 // The first n bytes, or all where there are fewer.
 pub fn front(bytes: &[u8], n: usize) -> &[u8]
     ensures { result.now ≡ take n bytes.now }
 {
-    if n <= bytes.len() {
-        &bytes[0..n]
-    } else {
-        bytes
-    }
+    bytes.get(..n).unwrap_or(bytes)
 }

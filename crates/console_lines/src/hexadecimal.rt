@@ -1,47 +1,30 @@
 // Bytes as text in hexadecimal.
 ghost use Rattle.std.specs.Prelude.{◌<◌};
-ghost use Rattle.io.specs.Counts.{IsPrefixLen};
+
+use std::fmt;
 
 // How many bytes are written at a time.
 const PIECE: usize = 128;
 
-// Writes the bytes as pairs of capital hexadecimal digits, and answers whether all were written.
-pub fn write_hex(fd: i32, bytes: &[u8]) -> bool {
-    let mut at = 0;
-    while at < bytes.len() {
-        let written = write_piece(fd, &bytes[at..]);
-        if written {
-            at += PIECE;
-        } else {
-            return false;
-        }
-    }
-    true
-}
+const DIGITS: usize = 2 * PIECE;
 
-// Writes the first bytes, as many as a piece has.
-fn write_piece(fd: i32, bytes: &[u8]) -> bool {
-    let mut digits = [b'0'; 2 * PIECE];
-    let n = spell(bytes, &mut digits);
-    io::write_all(fd, &digits[..n])
-}
+// Bytes, written as pairs of capital hexadecimal digits.
+#[derive(Clone, Copy)]
+pub struct Hex<'a>(pub &'a [u8]);
 
-// Puts the digits of the first bytes into `digits`, as far as it has room, and answers how many.
-fn spell(bytes: &[u8], digits: &mut [u8]) -> usize
-    ensures { IsPrefixLen result digits.new }
-{
-    let mut i = 0;
-    let mut n = 0;
-    while i < bytes.len() {
-        if digits.len() - n < 2 {
-            return n;
+impl fmt::Display for Hex<'_> {
+    fn fmt<W: fmt::Write>(&self, f: &mut fmt::Formatter<W>) -> fmt::Result {
+        for piece in self.0.chunks(PIECE) {
+            let mut digits = [b'0'; DIGITS];
+            for (pair, b) in digits.chunks_exact_mut(2).zip(piece) {
+                pair[0] = glyph(*b / 16);
+                pair[1] = glyph(*b % 16);
+            }
+            let n = 2 * piece.len().min(PIECE);
+            f.write_str(str::from_utf8(&digits[..n]).map_err(|_| fmt::Error)?)?;
         }
-        digits[n] = glyph(bytes[i] / 16);
-        digits[n + 1] = glyph(bytes[i] % 16);
-        n += 2;
-        i += 1;
+        Ok(())
     }
-    n
 }
 
 // The capital hexadecimal digit of a value.

@@ -4,208 +4,153 @@
 
 mod hexadecimal;
 
-ghost use Rattle.std.specs.Prelude.{◌≤◌, ◌≡◌, false, length};
+ghost use Rattle.std.specs.Prelude.{◌≡◌, ◌≤◌, length, take};
 
-pub use hexadecimal::write_hex;
-use std::io::{Read, Stdin};
+pub use hexadecimal::Hex;
+use std::io;
+use std::io::{ErrorKind, Read, Stdin};
 
 // How many bytes are read at a time.
-pub const BLOCK: usize = 4096;
+const BLOCK: usize = 4096;
 
 const NEWLINE: u8 = b'\n';
 
-// The descriptors that the programs write to.
-pub const STDOUT_FILENO: i32 = 1;
-
-pub const STDERR_FILENO: i32 = 2;
-
-// How far the block that was read last is served: its bytes from `at` up to `end` are left. The
-// input is over where the last read brought nothing, and failed where that read failed.
+// What the last read brought: bytes; nothing, as at the input's end; or it failed.
 #[derive(Clone, Copy)]
+enum State {
+    Open,
+    Over,
+    Failed(io::Error),
+}
+
+// Standard input, of whose block that was read last the bytes from `at` up to `end` are left.
+#[derive(Drop)]
 pub struct Input {
-    pub at: usize,
-    pub end: usize,
-    pub over: bool,
-    pub failed: bool,
+    stdin: Stdin,
+    block: [u8; BLOCK],
+    at: usize,
+    end: usize,
+    state: State,
+    ghost in_block: { (at ≤ end) × (end ≤ 4096) },
 }
 
-// A line without its newline: its first `kept` bytes stand in the buffer, and it has `long` in all.
-// Or the end of the input, or a read that failed.
+// A line without its newline: those of its bytes for which there was room, and how many it has in all.
 #[derive(Clone, Copy)]
-pub enum Got {
-    Line {
-        kept: usize,
-        long: usize,
-        rest: Input,
-    },
-    End,
-    Failed,
+pub struct Line<'a> {
+    pub kept: &'a [u8],
+    pub long: usize,
 }
 
-// One byte. Or the end of the input, or a read that failed.
-#[derive(Clone, Copy)]
-pub enum One {
-    Byte { byte: u8, rest: Input },
-    End,
-    Failed,
-}
+impl Input {
+    ghost use Rattle.console_lines.specs.declared.State.TheVariants.{Open};
 
-// Nothing is read yet.
-pub fn start() -> Input
-    ensures { result ≡ record { at = 0; end = 0; over = false; failed = false } }
-{
-    Input {
-        at: 0,
-        end: 0,
-        over: false,
-        failed: false,
-    }
-}
-
-// The next line. It is served as soon as its newline has come, so that a typed line does not wait
-// for the next one; what stands behind the last newline is a line too, unless it is empty. A line
-// that a failed read cuts off is none. No line takes as many reads as there are turns.
-pub fn next_line(stdin: Stdin, block: &mut [u8; BLOCK], input: Input, line: &mut [u8]) -> Got {
-    let mut rest = input;
-    let mut long: usize = 0;
-    let mut turns = u64::MAX;
-    while 0 < turns {
-        rest = filled(stdin, block, rest);
-        if rest.over {
-            return last(long, line.len(), rest);
-        }
-        let at = rest.at;
-        let end = rest.end;
-        let stop = line_end(block, at, end);
-        keep(block, at, stop, line, long);
-        long = sum(long, stop - at);
-        if stop < end {
-            rest.at = stop + 1;
-            return served(long, line.len(), rest);
-        }
-        rest.at = end;
-        turns -= 1;
-    }
-    Got::Failed
-}
-
-// The next byte, as soon as it has come.
-pub fn next_byte(stdin: Stdin, block: &mut [u8; BLOCK], input: Input) -> One {
-    let mut rest = filled(stdin, block, input);
-    if rest.failed {
-        return One::Failed;
-    }
-    let at = rest.at;
-    if rest.end <= at {
-        return One::End;
-    }
-    rest.at = at + 1;
-    One::Byte {
-        byte: block[at],
-        rest: rest,
-    }
-}
-
-// The input with bytes to serve: where none are left it reads once.
-fn filled(stdin: Stdin, block: &mut [u8; BLOCK], input: Input) -> Input
-    ensures { (result.at ≤ result.end) × (result.end ≤ 4096) }
-{
-    let at = input.at;
-    let end = input.end;
-    if at < end {
-        if end <= BLOCK {
-            return input;
-        }
-    }
-    if input.over {
-        return read_nothing(input.failed);
-    }
-    read_block(stdin, block)
-}
-
-// The input after one read of standard input.
-fn read_block(mut stdin: Stdin, block: &mut [u8]) -> Input
-    requires { length block.old ≤ 4096 }
-    ensures { (result.at ≤ result.end) × (result.end ≤ 4096) }
-{
-    match stdin.read(block) {
-        Ok(0) => read_nothing(false),
-        Ok(n) => Input {
+    // Nothing is read yet.
+    pub fn new(stdin: Stdin) -> Input
+        ensures { (result.at ≡ 0) × (result.end ≡ 0) × (result.state ≡ Open) }
+    {
+        Input {
+            stdin,
+            block: [0; BLOCK],
             at: 0,
-            end: n,
-            over: false,
-            failed: false,
-        },
-        Err(_) => read_nothing(true),
-    }
-}
-
-// The input after a read that brought nothing.
-fn read_nothing(failed: bool) -> Input
-    ensures { (result.at ≤ result.end) × (result.end ≤ 4096) }
-{
-    Input {
-        at: 0,
-        end: 0,
-        over: true,
-        failed: failed,
-    }
-}
-
-// Where the line that goes on at `at` ends: at its newline, or at `end`.
-fn line_end(block: &[u8; BLOCK], at: usize, end: usize) -> usize
-    requires { (at ≤ end) × (end ≤ 4096) }
-    ensures { (at ≤ result) × (result ≤ end) }
-{
-    let mut i = at;
-    while i < end {
-        if block[i] == NEWLINE {
-            return i;
+            end: 0,
+            state: State::Open,
         }
-        i += 1;
     }
-    i
-}
 
-// Copies the block's bytes from `at` up to `stop` behind the first `long` bytes of the line, as far
-// as the line has room.
-fn keep(block: &[u8; BLOCK], at: usize, stop: usize, line: &mut [u8], long: usize)
-    requires { stop ≤ 4096 }
-{
-    let mut i = at;
-    let mut to = long;
-    while i < stop {
-        if line.len() <= to {
-            return;
+    // The next line, put into `room` as far as that goes, or none at the end of the input. It is
+    // served as soon as its newline has come, so that a typed line does not wait for the next one;
+    // what stands behind the last newline is a line too, unless it is empty. A line that a failed
+    // read cuts off is none. No line takes as many reads as there are turns.
+    pub fn next_line<'a>(&mut self, room: &'a mut [u8]) -> io::Result<Option<Line<'a>>> {
+        let mut long: usize = 0;
+        for _ in 0..u64::MAX {
+            let left = self.fill()?;
+            let stop = left.iter().position(|b| *b == NEWLINE);
+            let part = &left[..stop.unwrap_or(left.len())];
+            let n = part.len();
+            keep(part, room, long);
+            long = long.saturating_add(n);
+            if stop.is_some() {
+                self.consume(n + 1);
+                return Ok(Some(served(room, long)));
+            }
+            if n == 0 {
+                return Ok(if long == 0 {
+                    None
+                } else {
+                    Some(served(room, long))
+                });
+            }
+            self.consume(n);
         }
-        line[to] = block[i];
-        to += 1;
-        i += 1;
+        Err(io::Error::from(ErrorKind::FileTooLarge))
+    }
+
+    // The next byte, as soon as it has come, or none at the end of the input.
+    pub fn next_byte(&mut self) -> io::Result<Option<u8>> {
+        let byte = self.fill()?.first().copied();
+        self.consume(1);
+        Ok(byte)
+    }
+
+    // The bytes that are left; where none are it reads once. At the input's end there are none.
+    fn fill(&mut self) -> io::Result<&[u8]> {
+        if self.end <= self.at {
+            self.read()?;
+        }
+        Ok(&self.block[self.at..self.end])
+    }
+
+    // Reads once, unless an earlier read brought nothing or failed.
+    fn read(&mut self) -> io::Result<()> {
+        match self.state {
+            State::Open => {}
+            State::Over => {
+                return Ok(());
+            }
+            State::Failed(e) => {
+                return Err(e);
+            }
+        }
+        self.at = 0;
+        self.end = 0;
+        match self.stdin.read(&mut self.block) {
+            Ok(0) => {
+                self.state = State::Over;
+            }
+            Ok(n) => {
+                self.end = n;
+            }
+            Err(e) => {
+                self.state = State::Failed(e);
+                return Err(e);
+            }
+        }
+        Ok(())
+    }
+
+    // Passes over n of the bytes that are left, or all where there are fewer.
+    fn consume(&mut self, n: usize) {
+        self.at += n.min(self.end - self.at);
     }
 }
 
-// What is left when the input is over: a line of `long` bytes, or none.
-fn last(long: usize, room: usize, rest: Input) -> Got {
-    if rest.failed {
-        return Got::Failed;
+// Copies a part of a line behind the first `long` bytes of the line, as far as there is room.
+fn keep(part: &[u8], room: &mut [u8], long: usize)
+    ensures { length room.new ≡ length room.old }
+{
+    if long < room.len() {
+        let n = part.len().min(room.len() - long);
+        room[long..long + n].copy_from_slice(&part[..n]);
     }
-    if long == 0 {
-        return Got::End;
-    }
-    served(long, room, rest)
 }
 
-// A line of `long` bytes, of which a buffer with `room` bytes has kept what fits.
-fn served(long: usize, room: usize, rest: Input) -> Got {
-    let kept = if long < room { long } else { room };
-    Got::Line { kept, long, rest }
-}
-
-// The sum, or the largest number where it would be larger.
-fn sum(a: usize, b: usize) -> usize {
-    if a <= usize::MAX - b {
-        a + b
-    } else {
-        usize::MAX
+// A line of `long` bytes, of which `room` has kept what fits.
+fn served(room: &[u8], long: usize) -> Line<'_>
+    ensures { (result.kept.now ≡ take long room.now) × (result.long ≡ long) }
+{
+    Line {
+        kept: &room[..long.min(room.len())],
+        long,
     }
 }

@@ -3,50 +3,37 @@
 
 mod hint;
 
-pub use console_window::point;
-
-// The key of the phrase that a refusal has whatever the line is.
-const GENERAL: u8 = b'.';
-
-// The last refusal whose place is one in the line, but for NO_KEY and NAME_TWICE: the later ones speak of a buffer, a record, an order
-// or a place.
-const LAST_OF_LINE: u8 = rules::TOO_MANY_ORDERS;
+use console_window::{Line, Pointed, Screen};
+use hint_phrases::{Phrase, plain};
+use rules::{Reason, Refusal};
+use std::fmt;
+use std::fmt::Write;
 
 // Shows a refusal: the line that was refused or, where its bases are at fault, those; a caret under the place, or behind the line if
-// the place is there; number, place and sentence; then what can be told from the line. Answers whether all was written.
-pub fn show(fd: i32, line: &[u8], bases: &[u8], number: u8, place: u32) -> bool {
-    if write_place(fd, line, bases, number, place as usize) {
-        if write_refusal(fd, number, place) {
-            if hint::write_line_hint(fd, line, bases, number, place) {
-                return io::write_all(fd, b"\n");
-            }
-        }
-    }
-    false
+// the place is there; number, place and sentence; then what can be told from the line.
+pub fn show(mut screen: Screen, line: &[u8], bases: &[u8], refusal: Refusal) -> fmt::Result {
+    write_place(screen, line, bases, refusal)?;
+    write_refusal(screen, refusal)?;
+    hint::write_line_hint(screen, line, bases, refusal)?;
+    writeln!(screen)
 }
 
 // Shows a refusal of an argument that is asked for of the place with the number `asked`: `text` is the command that holds it alone, and
-// number and place are those with which that command, or its argument, was refused.
+// the refusal is the one with which that command, or its argument, was refused.
 pub fn show_argument(
-    fd: i32,
+    mut screen: Screen,
     text: &[u8],
     bases: &[u8],
-    number: u8,
-    place: u32,
+    refusal: Refusal,
     asked: u32,
-) -> bool {
-    if point(
-        fd,
-        console_figures::argument_text(text),
-        in_argument(place as usize),
-    ) {
-        if write_refusal(fd, rules::WRONG_ARGUMENT, 0) {
-            if hint::write_argument_hint(fd, text, bases, number, place, asked as usize) {
-                return io::write_all(fd, b"\n");
-            }
-        }
-    }
-    false
+) -> fmt::Result {
+    let line = console_figures::argument_text(text);
+    let place = in_argument(refusal.place as usize);
+    let pointed = Pointed { line, place };
+    write!(screen, "{pointed}")?;
+    write_refusal(screen, Reason::WrongArgument.at(0))?;
+    hint::write_argument_hint(screen, text, bases, refusal, asked as usize)?;
+    writeln!(screen)
 }
 
 // Where in the argument a place of its command lies.
@@ -58,38 +45,37 @@ fn in_argument(place: usize) -> usize {
 }
 
 // Shows a refusal of a record that the line gives in hexadecimal: no place in it is a byte's.
-pub fn show_record(fd: i32, line: &[u8], number: u8, place: u32) -> bool {
-    if console_window::write_line(fd, line) {
-        if write_refusal(fd, number, place) {
-            if hint::write_record_hint(fd, number) {
-                return io::write_all(fd, b"\n");
-            }
-        }
-    }
-    false
+pub fn show_record(mut screen: Screen, line: &[u8], refusal: Refusal) -> fmt::Result {
+    let alone = Line(line);
+    write!(screen, "{alone}")?;
+    write_refusal(screen, refusal)?;
+    hint::write_record_hint(screen, refusal.reason)?;
+    writeln!(screen)
 }
 
-// Writes what was refused, with a caret where the place is in it.
-fn write_place(fd: i32, line: &[u8], bases: &[u8], number: u8, place: usize) -> bool {
-    if number == rules::WRONG_LETTER {
-        return point(fd, bases, place);
-    }
-    if number <= LAST_OF_LINE || number == rules::NO_KEY || number == rules::NAME_TWICE {
-        return point(fd, line, place);
-    }
-    console_window::write_line(fd, line)
+// Writes what was refused, with a caret where the place is in it: of some refusals it is one in a buffer, a record, an order or a place.
+fn write_place(mut screen: Screen, line: &[u8], bases: &[u8], refusal: Refusal) -> fmt::Result {
+    let place = refusal.place as usize;
+    let pointed = match refusal.reason {
+        Reason::WrongLetter => Pointed { line: bases, place },
+        Reason::NoRoom
+        | Reason::NotWellFormed
+        | Reason::NoSuchOrder
+        | Reason::NoSuchPlace
+        | Reason::WrongArgument
+        | Reason::WrongRow => {
+            let alone = Line(line);
+            return write!(screen, "{alone}");
+        }
+        _ => Pointed { line, place },
+    };
+    write!(screen, "{pointed}")
 }
 
 // Writes number, place and general phrase of a refusal, in one line.
-pub fn write_refusal(fd: i32, number: u8, place: u32) -> bool {
-    write_number(fd, b"refused ", number as u64)
-        && write_number(fd, b" at ", place as u64)
-        && io::write_all(fd, b": ")
-        && hint_phrases::write_hint(fd, b"", b"", number, hint_phrases::plain(GENERAL))
-        && io::write_all(fd, b"\n")
-}
-
-// Writes words and a number.
-fn write_number(fd: i32, words: &[u8], n: u64) -> bool {
-    io::write_all(fd, words) && io::print_decimal(fd, n)
+pub fn write_refusal(mut screen: Screen, refusal: Refusal) -> fmt::Result {
+    let number = refusal.reason.number();
+    let place = refusal.place;
+    let general = plain(Phrase::General(refusal.reason));
+    writeln!(screen, "refused {number} at {place}: {general}")
 }

@@ -1,12 +1,9 @@
 -- Which key an operator means by a byte.
-use Rattle.std.specs.Prelude.{ℕ, eqb}
+use Rattle.std.specs.Prelude.{ℕ, eqb, Option, Some, None}
 use Rattle.laws.specs.Cases.{pick}
-use Rattle.console_lines.specs.declared.Input.{Input}
 use Rattle.rules.specs.Keeping.{backspace}
 use Rattle.console_words.specs.declared.Manner.{Manner}
-use Rattle.console_words.specs.declared.Manner.TheVariants.{Alone, Told, Typed, Unknown}
-use Rattle.console_typing.specs.declared.Key.{Key}
-use Rattle.console_typing.specs.declared.Key.TheVariants.{Is, End}
+use Rattle.console_words.specs.declared.Manner.TheVariants.{Alone, Told, Typed}
 
 -- what a terminal's Backspace sends: its name for BS
 abbrev pub delete : ℕ
@@ -16,12 +13,12 @@ delete = 127
 abbrev pub end_of_input : ℕ
 end_of_input = 4
 
-abbrev pub meant_on_terminal : ℕ → Input → Key
-meant_on_terminal b rest = pick (eqb b end_of_input) End (pick (eqb b delete) (Is backspace rest) (Is b rest))
+-- the key, or none at the end of the keys
+abbrev pub meant_on_terminal : ℕ → Option ℕ
+meant_on_terminal b = pick (eqb b end_of_input) None (pick (eqb b delete) (Some backspace) (Some b))
 
 -- from a pipe or a file the byte as it came
-abbrev pub meant_by : Manner → ℕ → Input → Key
-meant_by Alone b rest = Is b rest
-meant_by Told b rest = Is b rest
-meant_by Typed b rest = meant_on_terminal b rest
-meant_by Unknown b rest = Is b rest
+abbrev pub meant_by : Manner → ℕ → Option ℕ
+meant_by Alone b = Some b
+meant_by Told b = Some b
+meant_by Typed b = meant_on_terminal b

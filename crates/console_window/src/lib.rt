@@ -2,19 +2,109 @@
 #![tactic(auto)]
 
 ghost use Rattle.std.specs.Prelude.{◌+◌, ◌≤◌, length};
-ghost use Rattle.io.specs.Counts.{IsPrefixLen};
+
+use std::fmt;
 
 // How many columns a line takes at most; the caret may stand one behind them.
 const WIDTH: usize = 76;
-// Where something is cut off at an end, so many full stops stand for it.
+// Where something is cut off at an end, this stands for it.
+const DOTS: &str = "..";
+
 const CUT: usize = 2;
 // From the middle to either end.
 const HALF: usize = WIDTH / 2;
 
 // Room for a line, and a caret behind it.
-const ROW: usize = 80;
+pub const ROW: usize = 80;
 
-const BLANKS: [u8; ROW] = [b' '; ROW];
+// A terminal, or whatever a descriptor leads to, to write to.
+#[derive(Clone, Copy, Debug, PartialEq, Eq)]
+pub struct Screen {
+    pub fd: i32,
+}
+
+impl Screen {
+    // Standard output, and standard error.
+    pub const OUT: Screen = Screen { fd: 1 };
+
+    pub const ERR: Screen = Screen { fd: 2 };
+
+    // Writes bytes as they are.
+    pub fn write_bytes(self, bytes: &[u8]) -> fmt::Result {
+        if io::write_all(self.fd, bytes) {
+            Ok(())
+        } else {
+            Err(fmt::Error)
+        }
+    }
+}
+
+impl fmt::Write for Screen {
+    fn write_str(&mut self, s: &str) -> fmt::Result {
+        self.write_bytes(s.as_bytes())
+    }
+}
+
+// Bytes as a terminal shows them: the first, each that is no printed character as a full stop.
+#[derive(Clone, Copy)]
+pub struct Shown<'a>(pub &'a [u8]);
+
+impl fmt::Display for Shown<'_> {
+    fn fmt<W: fmt::Write>(&self, f: &mut fmt::Formatter<W>) -> fmt::Result {
+        let mut row = [b' '; ROW];
+        for (to, b) in row.iter_mut().zip(self.0) {
+            *to = printed(*b);
+        }
+        let n = self.0.len().min(ROW);
+        f.write_str(str::from_utf8(&row[..n]).map_err(|_| fmt::Error)?)
+    }
+}
+
+// What is written for a byte.
+pub fn printed(b: u8) -> u8
+    ensures { (32 ≤ result) × (result ≤ 126) }
+{
+    match b {
+        b' '..=b'~' => b,
+        _ => b'.',
+    }
+}
+
+// A line, and below it a caret under the byte at `place`, or behind the last byte. Of a long line only a part is written.
+#[derive(Clone, Copy)]
+pub struct Pointed<'a> {
+    pub line: &'a [u8],
+    pub place: usize,
+}
+
+impl fmt::Display for Pointed<'_> {
+    fn fmt<W: fmt::Write>(&self, f: &mut fmt::Formatter<W>) -> fmt::Result {
+        let line = without_return(self.line);
+        let place = self.place.min(line.len());
+        let window = Window::around(line.len(), place);
+        window.write(line, f)?;
+        writeln!(f, "{:1$}^", "", window.column(place))
+    }
+}
+
+// A line alone, of a long one the beginning.
+#[derive(Clone, Copy)]
+pub struct Line<'a>(pub &'a [u8]);
+
+impl fmt::Display for Line<'_> {
+    fn fmt<W: fmt::Write>(&self, f: &mut fmt::Formatter<W>) -> fmt::Result {
+        let line = without_return(self.0);
+        Window::around(line.len(), 0).write(line, f)
+    }
+}
+
+// What is shown of a line: all but a carriage return at its end.
+fn without_return(line: &[u8]) -> &[u8] {
+    match line {
+        [front @ .., b'\r'] => front,
+        _ => line,
+    }
+}
 
 // What of a line is shown: its bytes from `from` up to `to`.
 #[derive(Clone, Copy)]
@@ -23,138 +113,55 @@ pub struct Window {
     pub to: usize,
 }
 
-// Writes the line, and below it a caret under the byte at `place`, or behind the last byte. Of a long line only a part is written.
-pub fn point(fd: i32, line: &[u8], place: usize) -> bool {
-    let len = shown(line);
-    let at = least(place, len);
-    let w = in_sight(len, at);
-    let from = w.from;
-    write_window(fd, line, from, w.to) && write_caret(fd, column(from, at))
-}
-
-// Writes the line alone, of a long one the beginning.
-pub fn write_line(fd: i32, line: &[u8]) -> bool {
-    let w = in_sight(shown(line), 0);
-    write_window(fd, line, w.from, w.to)
-}
-
-// How many bytes of a line are shown: all but a carriage return at its end.
-fn shown(line: &[u8]) -> usize
-    ensures { result ≤ length line.now }
-{
-    let n = line.len();
-    if n == 0 {
-        return 0;
-    }
-    if line[n - 1] == b'\r' {
-        return n - 1;
-    }
-    n
-}
-
-// The smaller of two numbers.
-fn least(a: usize, b: usize) -> usize
-    ensures { result ≤ b }
-{
-    if a < b { a } else { b }
-}
-
-// What is shown of a line of `len` bytes, so that `place` is in sight.
-fn in_sight(len: usize, place: usize) -> Window
-    requires { place ≤ len }
-    ensures { (result.to ≤ len) × (result.from ≤ place) × (place ≤ result.to) × (result.to ≤ result.from + 76) }
-{
-    if len <= WIDTH {
-        return Window { from: 0, to: len };
-    }
-    if place < HALF {
-        return Window {
-            from: 0,
-            to: WIDTH - CUT,
-        };
-    }
-    if len - HALF <= place {
-        return Window {
-            from: len - (WIDTH - CUT),
-            to: len,
-        };
-    }
-    Window {
-        from: place - (HALF - CUT),
-        to: place + (HALF - CUT),
-    }
-}
-
-// The column of a place in a window.
-fn column(from: usize, place: usize) -> usize
-    requires { (from ≤ place) × (place ≤ from + 76) }
-    ensures { result ≤ 78 }
-{
-    if from == 0 {
-        return place;
-    }
-    place - from + CUT
-}
-
-// Writes the bytes of a line from `from` up to `to`, and full stops for what is cut off.
-fn write_window(fd: i32, line: &[u8], from: usize, to: usize) -> bool
-    requires { (from ≤ to) × (to ≤ length line.now) }
-{
-    let cut = to < shown(line);
-    write_cut(fd, 0 < from)
-        && write_bytes(fd, &line[from..to])
-        && write_cut(fd, cut)
-        && io::write_all(fd, b"\n")
-}
-
-// Writes full stops where something is cut off.
-fn write_cut(fd: i32, cut: bool) -> bool {
-    if cut {
-        return io::write_all(fd, b"..");
-    }
-    true
-}
-
-// Writes bytes, each that is no printed character as a full stop; of many the first.
-pub fn write_bytes(fd: i32, bytes: &[u8]) -> bool {
-    let mut row = BLANKS;
-    let n = clean(bytes, &mut row);
-    io::write_all(fd, &row[..n])
-}
-
-// Copies the first bytes to the row, as far as it has room, and answers how many.
-fn clean(bytes: &[u8], row: &mut [u8]) -> usize
-    ensures { IsPrefixLen result row.new }
-{
-    let mut i = 0;
-    while i < bytes.len() {
-        if row.len() <= i {
-            return i;
+impl Window {
+    // What is shown of a line of `len` bytes, so that `place` is in sight.
+    fn around(len: usize, place: usize) -> Window
+        requires { place ≤ len }
+        ensures { (result.to ≤ len) × (result.from ≤ place) × (place ≤ result.to) × (result.to ≤ result.from + 76) }
+    {
+        if len <= WIDTH {
+            return Window { from: 0, to: len };
         }
-        row[i] = printed(bytes[i]);
-        i += 1;
+        if place < HALF {
+            return Window {
+                from: 0,
+                to: WIDTH - CUT,
+            };
+        }
+        if len - HALF <= place {
+            return Window {
+                from: len - (WIDTH - CUT),
+                to: len,
+            };
+        }
+        Window {
+            from: place - (HALF - CUT),
+            to: place + (HALF - CUT),
+        }
     }
-    i
-}
 
-// What is written for a byte.
-fn printed(b: u8) -> u8 {
-    match b {
-        b' '..=b'~' => b,
-        _ => b'.',
+    // The column of a place in the window.
+    fn column(self, place: usize) -> usize
+        requires { (self.from ≤ place) × (place ≤ self.from + 76) }
+        ensures { result ≤ 78 }
+    {
+        if self.from == 0 {
+            return place;
+        }
+        place - self.from + CUT
+    }
+
+    // Writes the window's bytes of a line, and full stops for what is cut off.
+    fn write<W: fmt::Write>(self, line: &[u8], f: &mut fmt::Formatter<W>) -> fmt::Result
+        requires { (self.from ≤ self.to) × (self.to ≤ length line.now) }
+    {
+        let before = cut(0 < self.from);
+        let behind = cut(self.to < line.len());
+        writeln!(f, "{before}{}{behind}", Shown(&line[self.from..self.to]))
     }
 }
 
-// Writes a caret in a column.
-fn write_caret(fd: i32, column: usize) -> bool
-    requires { column ≤ 78 }
-{
-    write_blanks(fd, column) && io::write_all(fd, b"^\n")
-}
-
-// Writes n blanks.
-fn write_blanks(fd: i32, n: usize) -> bool
-    requires { n ≤ 80 }
-{
-    io::write_all(fd, &BLANKS[..n])
+// What stands for what is cut off.
+fn cut(is_cut: bool) -> &'static str {
+    if is_cut { DOTS } else { "" }
 }

@@ -1,10 +1,12 @@
 // The words that the console is started with, MANNER VERB K BASES ARGUMENT, and how it tells who started it what came of them.
 #![tactic(auto)]
 
-ghost use Rattle.std.specs.Prelude.{◌≤◌, length};
+ghost use Rattle.std.specs.Prelude.{◌≡◌, ◌≤◌, length, cond, leb, Some, None};
+ghost use Rattle.console_words.specs.Told.{told};
 
-use console_figures::Number;
+use console_window::Screen;
 use std::env::{Env, FillError};
+use std::fmt;
 
 // How many words there are, the program's own name among them.
 const COUNT: usize = 6;
@@ -23,25 +25,71 @@ const LONGEST_WORD: usize = 6;
 
 const LONGEST_K: usize = 20;
 
-// The largest K that is a place.
-const LARGEST_PLACE: u64 = 4294967295;
+// Where the script reads a digit.
+const SCRIPT: Screen = Screen { fd: 3 };
 
-// The descriptor of standard error.
-const STDERR_FILENO: i32 = 2;
-// The descriptor where the script reads a digit.
-const SCRIPT: i32 = 3;
+// What came of all that was asked, as the script is told it.
+#[derive(Clone, Copy, Debug, PartialEq, Eq)]
+pub enum Status {
+    // Every line was served.
+    Served = b'0' as isize,
+    // At least one was refused.
+    Refused = b'1' as isize,
+    // The words are wrong.
+    WrongWords = b'2' as isize,
+    // Input or output failed.
+    Failed = b'3' as isize,
+}
+
+impl Status {
+    // The digit that tells it.
+    pub fn digit(self) -> u8
+        ensures { result ≡ told self }
+    {
+        self as u8
+    }
+}
 
 // How the program was started.
-#[derive(Clone, Copy)]
+#[derive(Clone, Copy, Debug, PartialEq, Eq)]
 pub enum Manner {
     Alone,
     Told,
     Typed,
-    Unknown,
 }
 
-// What is asked of each line: `Text` and `Bases` of a record, the others of a command.
-#[derive(Clone, Copy)]
+impl Manner {
+    // The manner that a word says.
+    fn of(word: &[u8]) -> Option<Manner> {
+        match word {
+            b"alone" => Some(Manner::Alone),
+            b"told" => Some(Manner::Told),
+            b"typed" => Some(Manner::Typed),
+            _ => None,
+        }
+    }
+
+    // Tells the script what came of all, if it listens.
+    pub fn tell(self, status: Status) {
+        match self {
+            Manner::Alone => {}
+            Manner::Told | Manner::Typed => {
+                let _ = SCRIPT.write_bytes(&[status.digit()]);
+            }
+        }
+    }
+
+    // Writes a text to the operator who types; where none does it need not be written.
+    pub fn prompt(self, text: &str) -> fmt::Result {
+        match self {
+            Manner::Typed => Screen::ERR.write_bytes(text.as_bytes()),
+            Manner::Alone | Manner::Told => Ok(()),
+        }
+    }
+}
+
+// What is asked of each line that is a command.
+#[derive(Clone, Copy, Debug, PartialEq, Eq)]
 pub enum Verb {
     Check,
     Record,
@@ -50,185 +98,105 @@ pub enum Verb {
     Order(u64),
     Has(u32),
     Place(u32),
+}
+
+// What is asked of each line that is a record.
+#[derive(Clone, Copy, Debug, PartialEq, Eq)]
+pub enum Form {
     Text,
     Bases,
 }
 
-// What the words ask: of lines that are commands or records; of keys, on a terminal with so many columns. Where they are wrong, that
-// has been said.
-#[derive(Clone, Copy)]
+// What the words ask: of lines that are commands or records; of keys, on a terminal with so many columns.
+#[derive(Clone, Copy, Debug, PartialEq, Eq)]
 pub enum Asked {
     Commands(Verb),
-    Records(Verb),
+    Records(Form),
     Keys(u64),
-    Wrong,
 }
 
-// How the program was started, by the first word.
-pub fn how(rt: HostRuntime) -> Manner {
-    let mut word = [0u8; LONGEST_WORD];
-    let n = whole(rt, MANNER, &mut word);
-    manner_of(&word[..n])
-}
-
-// The manner that a word says.
-fn manner_of(word: &[u8]) -> Manner {
-    if is(word, b"alone") {
-        return Manner::Alone;
-    }
-    if is(word, b"told") {
-        return Manner::Told;
-    }
-    if is(word, b"typed") {
-        return Manner::Typed;
-    }
-    Manner::Unknown
-}
-
-// What the other words ask.
-pub fn what(rt: HostRuntime, manner: Manner) -> Asked {
-    if !is_given(rt, COUNT - 1) || is_given(rt, COUNT) {
-        return complain();
-    }
-    match manner {
-        Manner::Unknown => complain(),
-        _ => what_verb(rt),
-    }
-}
-
-// Is there a word with this number?
-fn is_given(rt: HostRuntime, i: usize) -> bool {
-    let mut none = [0u8; 0];
-    match rt.arg(i, &mut none) {
-        Ok(_) => true,
-        Err(FillError::TooLong) => true,
-        Err(FillError::NotPresent) => false,
-    }
-}
-
-// Puts a word into `room`, and answers how many bytes: 0 where there is none, or not room for the whole.
-fn whole(rt: HostRuntime, i: usize, room: &mut [u8]) -> usize
-    ensures { result ≤ length room.new }
-{
-    match rt.arg(i, room) {
-        Ok(n) => n,
-        Err(_) => 0,
-    }
-}
-
-// What the verb and K ask.
-fn what_verb(rt: HostRuntime) -> Asked {
-    let mut digits = [0u8; LONGEST_K];
-    let n = whole(rt, K, &mut digits);
-    match console_figures::decimal(&digits[..n]) {
-        Number::Is(k) => what_of(rt, k),
-        Number::Wrong => complain(),
-    }
-}
-
-// What the verb asks, with the number K.
-fn what_of(rt: HostRuntime, k: u64) -> Asked {
-    let mut word = [0u8; LONGEST_WORD];
-    let n = whole(rt, VERB, &mut word);
-    command_verb(&word[..n], k)
-}
-
-// What a verb on commands, or on the keys of commands, asks.
-fn command_verb(word: &[u8], k: u64) -> Asked {
-    if is(word, b"check") {
-        return Asked::Commands(Verb::Check);
-    }
-    if is(word, b"record") {
-        return Asked::Commands(Verb::Record);
-    }
-    if is(word, b"orders") {
-        return Asked::Commands(Verb::Orders);
-    }
-    if is(word, b"list") {
-        return Asked::Commands(Verb::List);
-    }
-    if is(word, b"order") {
-        return Asked::Commands(Verb::Order(k));
-    }
-    if is(word, b"has") || is(word, b"place") {
-        return place_verb(word, k);
-    }
-    if is(word, b"keys") {
-        return Asked::Keys(k);
-    }
-    record_verb(word)
-}
-
-// What a verb on place k asks.
-fn place_verb(word: &[u8], k: u64) -> Asked {
-    if LARGEST_PLACE < k {
-        return complain();
-    }
-    if is(word, b"has") {
-        return Asked::Commands(Verb::Has(k as u32));
-    }
-    Asked::Commands(Verb::Place(k as u32))
-}
-
-// What a verb on records asks.
-fn record_verb(word: &[u8]) -> Asked {
-    if is(word, b"text") {
-        return Asked::Records(Verb::Text);
-    }
-    if is(word, b"bases") {
-        return Asked::Records(Verb::Bases);
-    }
-    complain()
-}
-
-// Whether two words are the same.
-fn is(word: &[u8], other: &[u8]) -> bool {
-    check::same(word, other)
-}
-
-// Says that the words are wrong.
-fn complain() -> Asked {
-    io::write_all(
-        STDERR_FILENO,
-        b"console: wrong words; start this program by `./mml`, and `./mml help` lists its verbs\n",
-    );
-    Asked::Wrong
-}
-
-// Puts the base letters into `letters`, and answers how many: of a longer list as many as fit.
-pub fn bases(rt: HostRuntime, letters: &mut [u8]) -> usize {
-    front_of(rt, BASES, letters)
-}
-
-// Puts the argument that `has` asks for into `argument`, and answers how many bytes: of a longer one as many as fit.
-pub fn argument(rt: HostRuntime, argument: &mut [u8]) -> usize {
-    front_of(rt, ARGUMENT, argument)
-}
-
-// Puts a word, or as much of it as fits, into `room`, and answers how many bytes.
-fn front_of(rt: HostRuntime, i: usize, room: &mut [u8]) -> usize {
-    match rt.arg(i, room) {
-        Ok(n) => n,
-        Err(FillError::TooLong) => room.len(),
-        Err(FillError::NotPresent) => 0,
-    }
-}
-
-// Tells the script a digit, if it listens.
-pub fn tell(manner: Manner, digit: u8) {
-    match manner {
-        Manner::Alone => {}
-        Manner::Unknown => {}
-        _ => {
-            io::write_all(SCRIPT, &[digit]);
+impl Asked {
+    // What a verb asks, with the number K.
+    fn of(verb: &[u8], k: u64) -> Option<Asked> {
+        match verb {
+            b"check" => Some(Asked::Commands(Verb::Check)),
+            b"record" => Some(Asked::Commands(Verb::Record)),
+            b"orders" => Some(Asked::Commands(Verb::Orders)),
+            b"list" => Some(Asked::Commands(Verb::List)),
+            b"order" => Some(Asked::Commands(Verb::Order(k))),
+            b"has" => Some(Asked::Commands(Verb::Has(place(k)?))),
+            b"place" => Some(Asked::Commands(Verb::Place(place(k)?))),
+            b"keys" => Some(Asked::Keys(k)),
+            b"text" => Some(Asked::Records(Form::Text)),
+            b"bases" => Some(Asked::Records(Form::Bases)),
+            _ => None,
         }
     }
 }
 
-// Writes a text to the operator who types, and answers whether it was written, or need not be.
-pub fn prompt(manner: Manner, text: &[u8]) -> bool {
-    match manner {
-        Manner::Typed => io::write_all(STDERR_FILENO, text),
-        _ => true,
+// The place that K numbers.
+fn place(k: u64) -> Option<u32>
+    ensures { result ≡ cond (leb k 4294967295) (Some k) None }
+{
+    u32::try_from(k).ok()
+}
+
+// How the program was started, by the first word.
+pub fn how(rt: HostRuntime) -> Option<Manner> {
+    let mut room = [0u8; LONGEST_WORD];
+    Manner::of(whole(rt, MANNER, &mut room))
+}
+
+// What the other words ask.
+pub fn what(rt: HostRuntime) -> Option<Asked> {
+    if !is_given(rt, COUNT - 1) || is_given(rt, COUNT) {
+        return None;
+    }
+    let mut digits = [0u8; LONGEST_K];
+    let k = console_figures::decimal(whole(rt, K, &mut digits))?;
+    let mut room = [0u8; LONGEST_WORD];
+    Asked::of(whole(rt, VERB, &mut room), k)
+}
+
+// Is there a word with this number?
+fn is_given(rt: HostRuntime, i: usize) -> bool {
+    !matches!(rt.arg(i, &mut []), Err(FillError::NotPresent))
+}
+
+// A word, put into `room`; none where it has not room for the whole.
+fn whole<'a>(rt: HostRuntime, i: usize, room: &'a mut [u8]) -> &'a [u8] {
+    match rt.arg(i, room) {
+        Ok(n) => &room[..n],
+        Err(_) => &[],
+    }
+}
+
+// Says that the words are wrong.
+pub fn complain() {
+    let _ = Screen::ERR.write_bytes(
+        b"console: wrong words; start this program by `./mml`, and `./mml help` lists its verbs\n",
+    );
+}
+
+// The base letters, put into `room`: of a longer list as many as fit.
+pub fn bases(rt: HostRuntime, room: &mut [u8]) -> &[u8] {
+    front(rt, BASES, room)
+}
+
+// The argument that `has` asks for, put into `room`: of a longer one as many bytes as fit.
+pub fn argument(rt: HostRuntime, room: &mut [u8]) -> &[u8]
+    ensures { length result.now ≤ length room.old }
+{
+    front(rt, ARGUMENT, room)
+}
+
+// A word, put into `room`, or as much of it as fits.
+fn front<'a>(rt: HostRuntime, i: usize, room: &'a mut [u8]) -> &'a [u8]
+    ensures { length result.now ≤ length room.old }
+{
+    match rt.arg(i, room) {
+        Ok(n) => room.get(..n).unwrap_or_default(),
+        Err(FillError::TooLong) => room,
+        Err(FillError::NotPresent) => &[],
     }
 }

@@ -1,14 +1,12 @@
 -- A byte is D, H, O, B or none of them: what computes at each of the four holds at every letter of a base that has values.
 use mathlib.Core.Path.{◌≡◌, refl, sym, subst}
-use mathlib.Core.Bool.{true, false, beq, false≢true}
+use mathlib.Core.Bool.{true, false, false≢true}
 use mathlib.Core.Option.{none, some}
-use Prim.Native.Nat.{ℕ, ◌-◌, ◌*◌, ◌/◌, ◌%◌, ◌≤◌, ◌<◌}
-use native.Mathlib.Omega.{arith}
+use Prim.Native.Nat.{ℕ, ◌≤◌}
 use lib.Dec.{eqb}
 use borrow.Author.Tests.{eqb-true}
-use Rattle.laws.specs.Cases.{beq_same, by_bool}
-use Rattle.laws.specs.Ranges.{in_range}
-use Rattle.rules.specs.Characters.{byte, between, is_letter}
+use Rattle.laws.specs.Cases.{by_bool}
+use Rattle.rules.specs.Characters.{byte}
 use Rattle.rules.specs.Units.{Radix, r_d, r_h, r_o, r_b, Base, plain, keys, letter, radix_letter, base_of, radix_at, base_at}
 use Rattle.rules.proofs.UnitBack.{size_least, size_most}
 use Rattle.digits.specs.Digits.{plain_letter, size_at}
@@ -70,10 +68,3 @@ no_base l =
     (λ y k. absurd (false≢true (sym y)))
     (λ y k. absurd (false≢true (sym y)))
     l (λ d h o b y k. rw (d, h, o, b, k))
-
--- ---- letters
-
--- a byte is a letter where it is a capital without what a small letter stands behind its capital: computed byte by byte
-pub letter_folded : (b : ℕ) → b < 256 → between (byte "A") (byte "Z") (b - b / 32 % 2 * 32) ≡ is_letter b
-letter_folded b h =
-    beq_same _ _ (in_range (λ x. beq (between (byte "A") (byte "Z") (x - x / 32 % 2 * 32)) (is_letter x)) 0 256 refl b (omega arith) (omega arith))

@@ -18,22 +18,18 @@ use Rattle.digits.specs.Digits.{grown, digits_from, digits_at}
 
 -- ---- the turns of the loop
 
-module _ (b : ℕ) (s : List ℕ) (i v : ℕ) where
-  pub digits_end : {r : Run} → r ≡ digits_at b s i v → length s ≤ i → record { end = i; value = v } ≡ r
+module _ (b : ℕ) (s : List ℕ) (i : ℕ) (run : Run) where
+  pub digits_end : {r : Run} → run.end ≡ i → r ≡ digits_at b s i run.value → length s ≤ i → run ≡ r
   unfolding digits_at digits_from
-  digits_end q h = sym (q ∙ rw (drop_of_length-le s h))
+  digits_end {r} z q h = let e : r ≡ record { end = i; value = run.value } = q ∙ rw (drop_of_length-le s h) in rw (← z) at (sym e)
 
-  pub digits_more : {d w : ℕ} {r : Run} → r ≡ digits_at b s i v → i < length s → d ≡ digit_value (get_or s i 0) → d < b → w ≡ grown b v d → r ≡ digits_at b s (i + 1) w
+  pub digits_more : {d w : ℕ} {r : Run} → r ≡ digits_at b s i run.value → i < length s → d ≡ digit_value (get_or s i 0) → d < b → w ≡ grown b run.value d → r ≡ digits_at b s (i + 1) w
   unfolding digits_at digits_from
   digits_more q h e t g = q ∙ rw (g, next s i h, ← e, lt-ltb _ _ t)
 
-  pub digits_stop : {d : ℕ} {r : Run} → r ≡ digits_at b s i v → i < length s → d ≡ digit_value (get_or s i 0) → b ≤ d → record { end = i; value = v } ≡ r
+  pub digits_stop : {d : ℕ} {r : Run} → run.end ≡ i → r ≡ digits_at b s i run.value → i < length s → d ≡ digit_value (get_or s i 0) → b ≤ d → run ≡ r
   unfolding digits_at digits_from
-  digits_stop q h e t = sym (q ∙ rw (next s i h, ← e, le-ltb _ _ t))
-
--- a value within the limit and one digit more have 64 bits
-pub grown_fits : (v base : ℕ) → v ≤ most_value → base ≤ 16 → v * base ≤ most_value * 16
-grown_fits v base h k = let m : v * base ≤ v * 16 = mul-le-mul_left v k in omega arith
+  digits_stop {d} {r} z q h e t = let f : r ≡ record { end = i; value = run.value } = q ∙ rw (next s i h, ← e, le-ltb _ _ t) in rw (← z) at (sym f)
 
 -- ---- how many digits stand at the start
 

@@ -1,5 +1,5 @@
 -- Digits as the code reads and writes them: a run of digits behind a value, and the digits of a number.
-use Rattle.std.specs.Prelude.{ℕ, ◌+◌, ◌*◌, Bool, ◌||◌, List, [], ◌∷◌, drop, leb, ltb, eqb}
+use Rattle.std.specs.Prelude.{ℕ, ◌+◌, ◌*◌, Bool, ◌||◌, List, [], ◌∷◌, Option, Some, None, drop, leb, ltb, eqb}
 use Rattle.laws.specs.Cases.{pick}
 use Rattle.rules.specs.Refusals.{most_value}
 use Rattle.rules.specs.Characters.{byte}
@@ -18,6 +18,11 @@ abbrev pub size_at : ℕ → ℕ
 size_at l = size (radix_at l)
 
 -- ---- a run of digits of base b
+
+-- the digit that a byte is, as a number: 99 for no digit
+abbrev pub told : Option ℕ → ℕ
+told (Some d) = d
+told None = 99
 
 -- one digit d more behind the value v: above the limit a value stays, since more digits make it no smaller
 unfoldable pub grown : ℕ → ℕ → ℕ → ℕ

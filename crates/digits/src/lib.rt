@@ -6,13 +6,10 @@ ghost use Rattle.laws.specs.Over.{over};
 ghost use Rattle.rules.specs.Characters.{capital, is_letter, is_digit, is_alnum, is_symbol_char};
 ghost use Rattle.rules.specs.Units.{digit_value, is_key, is_held_key};
 ghost use Rattle.rules.specs.Printing.{digit_char};
-ghost use Rattle.digits.specs.Digits.{plain_letter, size_at, grown, digits_at, whole, fixed};
+ghost use Rattle.digits.specs.Digits.{plain_letter, size_at, told, grown, digits_at, whole, fixed};
 
 // How many characters a prefix has: the letter and the mark.
 pub const PREFIX: usize = 2;
-
-// What `digit` answers for a byte that is no digit: more than any base has.
-const NO_DIGIT: u8 = 99;
 
 // The byte ten before A: the digit A counts ten.
 const BEFORE_A: u8 = 55;
@@ -24,18 +21,20 @@ const SMALL: u8 = 32;
 const BEFORE_SMALL_A: u8 = BEFORE_A + SMALL;
 
 // Where a run of digits ends, and its value.
-#[derive(Clone, Copy)]
+#[derive(Clone, Copy, Debug, PartialEq, Eq)]
 pub struct Run {
     pub end: usize,
     pub value: u64,
 }
+
+// The classes of bytes are the rules' own, in whose words callers prove: std's `is_ascii_digit` and the like would want a law at each call.
 
 // A letter, A to Z or a to z: without what a small one stands behind its capital, both are capitals.
 pub fn is_letter(b: u8) -> bool
     ensures { result ≡ is_letter b }
 {
     let capital = b - b / SMALL % 2 * SMALL;
-    b'A' <= capital && capital <= b'Z'
+    matches!(capital, b'A'..=b'Z')
 }
 
 // The capital of a small letter; any other byte is its own.
@@ -52,55 +51,28 @@ pub fn capital_of(b: u8) -> u8
 pub fn is_digit(b: u8) -> bool
     ensures { result ≡ is_digit b }
 {
-    match b {
-        b'0'..=b'9' => true,
-        _ => false,
-    }
+    matches!(b, b'0'..=b'9')
 }
 
 // A letter or a decimal digit: a character of identifiers.
 pub fn is_alnum(b: u8) -> bool
     ensures { result ≡ is_alnum b }
 {
-    if is_letter(b) {
-        return true;
-    }
-    is_digit(b)
+    is_letter(b) || is_digit(b)
 }
 
 // A character of symbolic names.
 pub fn is_sign(b: u8) -> bool
     ensures { result ≡ is_symbol_char b }
 {
-    if is_alnum(b) {
-        return true;
-    }
-    if b == b'+' {
-        return true;
-    }
-    if b == b'#' {
-        return true;
-    }
-    b == b'%'
+    is_alnum(b) || matches!(b, b'+' | b'#' | b'%')
 }
 
 // A digit of keyed numerals as records hold it: a letter is a capital.
 pub fn is_held_key(b: u8) -> bool
     ensures { result ≡ is_held_key b }
 {
-    if is_digit(b) {
-        return true;
-    }
-    if b == b'*' {
-        return true;
-    }
-    if b == b'#' {
-        return true;
-    }
-    match b {
-        b'A'..=b'D' => true,
-        _ => false,
-    }
+    matches!(b, b'0'..=b'9' | b'A'..=b'D' | b'*' | b'#')
 }
 
 // A digit of keyed numerals as it is typed: a letter may be small.
@@ -111,19 +83,11 @@ pub fn is_key(b: u8) -> bool
 }
 
 // The letter of a base that has values: D, H, O or B.
+#[tactic(auto, unfolding(crate::specs::Digits::plain_letter))]
 pub fn plain_letter(letter: u8) -> bool
     ensures { result ≡ plain_letter letter }
 {
-    if letter == b'D' {
-        return true;
-    }
-    if letter == b'H' {
-        return true;
-    }
-    if letter == b'O' {
-        return true;
-    }
-    letter == b'B'
+    matches!(letter, b'D' | b'H' | b'O' | b'B')
 }
 
 // How many digits the base of a letter has: those of D for a byte that is no letter of a base.
@@ -138,19 +102,20 @@ pub fn size(letter: u8) -> u8
     }
 }
 
-// The value of a digit, 0 to 15; a letter may be small.
-fn digit(b: u8) -> u8
-    ensures { result ≡ digit_value b }
+// The value of a digit, 0 to 15, if the byte is one; a letter may be small.
+fn digit(b: u8) -> Option<u8>
+    ensures { told result ≡ digit_value b }
 {
     match b {
-        b'0'..=b'9' => b - b'0',
-        b'A'..=b'F' => b - BEFORE_A,
-        b'a'..=b'f' => b - BEFORE_SMALL_A,
-        _ => NO_DIGIT,
+        b'0'..=b'9' => Some(b - b'0'),
+        b'A'..=b'F' => Some(b - BEFORE_A),
+        b'a'..=b'f' => Some(b - BEFORE_SMALL_A),
+        _ => None,
     }
 }
 
 // One digit more behind a value; a value above the limit stays as it is.
+#[tactic(auto, unfolding(crate::specs::Digits::grown))]
 fn grow(v: u64, base: u8, d: u8) -> u64
     requires { base ≤ 16 }
     ensures { result ≡ grown base v d }
@@ -167,18 +132,22 @@ pub fn digits(word: &[u8], from: usize, base: u8, start: u64) -> Run
     requires { base ≤ 16 }
     ensures { result ≡ digits_at base word.now from start }
 {
-    let mut i = from;
-    let mut v = start;
-    while i < word.len() {
-        let d = digit(word[i]);
-        if d < base {
-            v = grow(v, base, d);
-            i += 1;
-        } else {
-            return Run { end: i, value: v };
+    let mut run = Run {
+        end: from,
+        value: start,
+    };
+    for i in from..word.len() {
+        match digit(word[i]) {
+            Some(d) if d < base => {
+                run = Run {
+                    end: i + 1,
+                    value: grow(run.value, base, d),
+                };
+            }
+            _ => return run,
         }
     }
-    Run { end: i, value: v }
+    run
 }
 
 // The character of a digit.
@@ -193,7 +162,7 @@ fn digit_char(d: u32) -> u8
     }
 }
 
-// How many digits n has in a base.
+// How many digits n has in a base. The loop divides until one digit is left: no index is counted, so a `while` is plainest.
 pub fn digit_count(n: u32, base: u32) -> usize
     requires { (2 ≤ base) × (base ≤ 16) }
     ensures { result ≡ length (whole base n) }
@@ -201,7 +170,7 @@ pub fn digit_count(n: u32, base: u32) -> usize
     let mut m = n;
     let mut k: usize = 1;
     while m >= base {
-        m = m / base;
+        m /= base;
         k += 1;
     }
     k
@@ -213,11 +182,9 @@ pub fn put_digits(out: &mut [u8], k: usize, n: u32, base: u32)
     ensures { out.new ≡ over (fixed k base n) out.old }
 {
     let mut m = n;
-    let mut i = k;
-    while 0 < i {
-        i -= 1;
+    for i in (0..k).rev() {
         out[i] = digit_char(m % base);
-        m = m / base;
+        m /= base;
     }
 }
 

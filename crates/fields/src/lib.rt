@@ -5,7 +5,11 @@ ghost use Rattle.std.specs.Prelude.{◌≡◌, [], ◌∷◌, map, ◌+◌, ◌�
 ghost use Rattle.laws.specs.Over.{over};
 ghost use Rattle.rules.specs.Characters.{capital};
 ghost use Rattle.rules.specs.Records.{field, field_bytes};
+ghost use Rattle.record_walk.specs.Tags.{number};
 ghost use Rattle.fields.specs.Units.{two_bytes, numeral_bytes, unit_bytes, Skips};
+
+use record_walk::Tag;
+use units::{Fault, Word};
 
 // The bytes of a numeral's content, as its field says them.
 const NUMERAL_CONTENT: u16 = record_walk::NUMERAL_CONTENT as u16;
@@ -27,15 +31,13 @@ pub fn put_u16(out: &mut [u8], n: u16)
     out[1] = (n % 256) as u8;
 }
 
-// Writes a copy of the content.
+// Writes a copy of the content. The library's `copy_from_slice` calls `memmove`, which the archive for C must not need (include/mml.h).
 pub fn put_bytes(out: &mut [u8], content: &[u8])
     requires { length content.now ≤ length out.old }
     ensures { out.new ≡ over content.now out.old }
 {
-    let mut i = 0;
-    while i < content.len() {
+    for i in 0..content.len() {
         out[i] = content[i];
-        i += 1;
     }
 }
 
@@ -44,27 +46,25 @@ fn put_capitals(out: &mut [u8], content: &[u8])
     requires { length content.now ≤ length out.old }
     ensures { out.new ≡ over (map capital content.now) out.old }
 {
-    let mut i = 0;
-    while i < content.len() {
+    for i in 0..content.len() {
         out[i] = digits::capital_of(content[i]);
-        i += 1;
     }
 }
 
 // Writes what stands before a field's content: the tag, and the content's length in two bytes.
-pub fn put_header(out: &mut [u8], tag: u8, n: u16)
+pub fn put_header(out: &mut [u8], tag: Tag, n: u16)
     requires { 3 ≤ length out.old }
-    ensures { out.new ≡ over (tag ∷ two_bytes n) out.old }
+    ensures { out.new ≡ over (number tag ∷ two_bytes n) out.old }
 {
-    put_u8(out, tag);
+    put_u8(out, tag as u8);
     put_u16(&mut out[1..], n);
 }
 
 // Writes a field: tag, length in two bytes, content. Returns how many bytes it wrote.
-pub fn put_field(out: &mut [u8], tag: u8, content: &[u8]) -> usize
+pub fn put_field(out: &mut [u8], tag: Tag, content: &[u8]) -> usize
     requires { (length content.now < 65536) × (3 + length content.now ≤ length out.old) }
     ensures { (result ≡ 3 + length content.now)
-        × (out.new ≡ over (field_bytes (field tag content.now)) out.old) }
+        × (out.new ≡ over (field_bytes (field (number tag) content.now)) out.old) }
 {
     let n = content.len();
     put_header(out, tag, n as u16);
@@ -72,14 +72,14 @@ pub fn put_field(out: &mut [u8], tag: u8, content: &[u8]) -> usize
     record_walk::HEADER + n
 }
 
-// Writes the field of a keyed numeral, its letters as capitals. Returns how many bytes it wrote.
+// Writes the field of a keyed numeral, its letters as capitals. Returns how many bytes it wrote. Not one function with `put_field`: the contract on a closure that writes the content would be longer than these three calls.
 fn put_keyed(out: &mut [u8], content: &[u8]) -> usize
     requires { (length content.now < 65536) × (3 + length content.now ≤ length out.old) }
     ensures { (result ≡ 3 + length content.now)
         × (out.new ≡ over (field_bytes (field 8 (map capital content.now))) out.old) }
 {
     let n = content.len();
-    put_header(out, record_walk::KEYED, n as u16);
+    put_header(out, Tag::Keyed, n as u16);
     put_capitals(&mut out[record_walk::HEADER..], content);
     record_walk::HEADER + n
 }
@@ -89,39 +89,43 @@ pub fn put_numeral(out: &mut [u8], letter: u8, fraction: u8, value: u32)
     requires { 9 ≤ length out.old }
     ensures { out.new ≡ over (numeral_bytes letter fraction value) out.old }
 {
-    put_header(out, record_walk::NUMERAL, NUMERAL_CONTENT);
+    put_header(out, Tag::Numeral, NUMERAL_CONTENT);
     put_u8(&mut out[record_walk::LETTER..], letter);
     put_u8(&mut out[record_walk::FRACTION..], fraction);
     record_walk::put_number(&mut out[record_walk::VALUE..], value);
 }
 
 // How many bytes the field of a word's unit has: none where the word is no unit.
-pub fn unit_len(word: &[u8], unit: units::Word) -> usize
+#[tactic(auto, unfolding(crate::specs::Units::unit_bytes, crate::specs::Units::numeral_bytes))]
+pub fn unit_len(word: &[u8], unit: Result<Word, Fault>) -> usize
     requires { (length word.now < 65536) × Skips word.now unit }
     ensures { result ≡ length (unit_bytes word.now unit) }
 {
+    let Ok(unit) = unit else {
+        return 0;
+    };
     match unit {
-        units::Word::Numeral {
+        Word::Numeral {
             letter,
             fraction,
             value,
         } => record_walk::NUMERAL_FIELD,
-        units::Word::Keyed { skip } => record_walk::HEADER + (word.len() - skip),
-        units::Word::Identifier => record_walk::HEADER + word.len(),
-        units::Word::Symbolic => record_walk::HEADER + word.len(),
-        units::Word::Unreadable => 0,
-        units::Word::TooBig => 0,
+        Word::Keyed { skip } => record_walk::HEADER + (word.len() - skip),
+        Word::Identifier | Word::Symbolic => record_walk::HEADER + word.len(),
     }
 }
 
 // Writes the field of a word's unit: nothing where the word is no unit. Returns how many bytes it wrote.
-pub fn put_unit(out: &mut [u8], word: &[u8], unit: units::Word) -> usize
+pub fn put_unit(out: &mut [u8], word: &[u8], unit: Result<Word, Fault>) -> usize
     requires { (length word.now < 65536) × Skips word.now unit × (length (unit_bytes word.now unit) ≤ length out.old) }
     ensures { (result ≡ length (unit_bytes word.now unit))
         × (out.new ≡ over (unit_bytes word.now unit) out.old) }
 {
+    let Ok(unit) = unit else {
+        return 0;
+    };
     match unit {
-        units::Word::Numeral {
+        Word::Numeral {
             letter,
             fraction,
             value,
@@ -129,10 +133,8 @@ pub fn put_unit(out: &mut [u8], word: &[u8], unit: units::Word) -> usize
             put_numeral(out, letter, fraction, value);
             record_walk::NUMERAL_FIELD
         }
-        units::Word::Keyed { skip } => put_keyed(out, &word[skip..]),
-        units::Word::Identifier => put_field(out, record_walk::IDENTIFIER, word),
-        units::Word::Symbolic => put_field(out, record_walk::SYMBOLIC, word),
-        units::Word::Unreadable => 0,
-        units::Word::TooBig => 0,
+        Word::Keyed { skip } => put_keyed(out, &word[skip..]),
+        Word::Identifier => put_field(out, Tag::Identifier, word),
+        Word::Symbolic => put_field(out, Tag::Symbolic, word),
     }
 }

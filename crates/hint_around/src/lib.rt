@@ -1,164 +1,118 @@
-// What stands around a token of the table: its index, its neighbours, and the value, the place and the block that hold it.
+// What stands around a token of the table: its neighbours, and the value, the place and the block that hold it.
 #![tactic(auto)]
 
-ghost use Rattle.std.specs.Prelude.{◌≤◌};
+use token_table::{Kind, Token};
 
-// The kind that no token has, for an index outside the table.
-const NO_KIND: u8 = 12;
-
-// The base of the places past the end of the list.
+// The base of the code, and of the places past the end of the list.
 const DECIMAL: u8 = b'D';
 
+// A token of a table, or its end: the tokens, their contents, the base letters of the places, and the token's index.
+#[derive(Clone, Copy)]
+pub struct Around<'a> {
+    pub toks: &'a [Token],
+    pub contents: &'a [u8],
+    pub bases: &'a [u8],
+    pub at: usize,
+}
+
 // The index of the token that begins at a place of the text, or the table's length.
-pub fn index_at(toks: &[u64], place: u32) -> usize {
-    let mut i: usize = 0;
-    while i < toks.len() {
-        if token_table::place(toks[i]) == place {
-            return i;
-        }
-        i += 1;
-    }
-    i
+pub fn index_at(toks: &[Token], place: u32) -> usize {
+    toks.iter()
+        .position(|t| t.place() == place)
+        .unwrap_or(toks.len())
 }
 
-// The kind of the i-th token.
-pub fn kind(toks: &[u64], i: usize) -> u8 {
-    if i < toks.len() {
-        return token_table::kind(toks[i]);
+impl<'a> Around<'a> {
+    // The kind of the token.
+    pub fn kind(self) -> Option<Kind> {
+        self.kind_before(0)
     }
-    NO_KIND
-}
 
-// The kind of the token that stands `back` tokens before the i-th.
-pub fn kind_before(toks: &[u64], i: usize, back: usize) -> u8 {
-    if back <= i {
-        return kind(toks, i - back);
+    // The kind of the token that stands `back` tokens before it.
+    pub fn kind_before(self, back: usize) -> Option<Kind> {
+        let i = self.at.checked_sub(back)?;
+        Some(self.toks.get(i)?.kind)
     }
-    NO_KIND
-}
 
-// The place of the i-th token in the text, 0 outside the table.
-pub fn place(toks: &[u64], i: usize) -> u32 {
-    if i < toks.len() {
-        return token_table::place(toks[i]);
+    // Is it a unit: a word or a string?
+    pub fn is_unit(self) -> bool {
+        matches!(self.kind(), Some(Kind::Word | Kind::String))
     }
-    0
-}
 
-// Where the content of the i-th token begins, a word's characters or a string's bytes; 0 outside the table.
-pub fn start(toks: &[u64], contents: &[u8], i: usize) -> usize {
-    if i < toks.len() {
-        return token_table::start(toks[i], contents.len());
+    // Its place in the text, none at the table's end.
+    pub fn place(self) -> Option<usize> {
+        Some(self.toks.get(self.at)?.place() as usize)
     }
-    0
-}
 
-// Where the content of the i-th token ends; 0 outside the table.
-pub fn end(toks: &[u64], contents: &[u8], i: usize) -> usize {
-    if i < toks.len() {
-        return token_table::end(toks[i], contents.len());
-    }
-    0
-}
-
-// The content of the i-th token.
-pub fn content<'a>(toks: &[u64], contents: &'a [u8], i: usize) -> &'a [u8] {
-    let from = start(toks, contents, i);
-    let to = end(toks, contents, i);
-    if from <= to {
-        if to <= contents.len() {
-            return &contents[from..to];
+    // Its content, a word's characters or a string's bytes; none at the table's end.
+    pub fn content(self) -> &'a [u8] {
+        match self.toks.get(self.at) {
+            Some(t) => t.content(self.contents),
+            None => b"",
         }
     }
-    &contents[0..0]
-}
 
-// Is the i-th token a unit: a word or a string?
-pub fn is_unit(toks: &[u64], i: usize) -> bool {
-    let k = kind(toks, i);
-    k == token_table::WORD || k == token_table::STRING
-}
+    // The tokens before it.
+    fn before(self) -> &'a [Token] {
+        self.toks.get(..self.at).unwrap_or(self.toks)
+    }
 
-// 1 for a token that begins a place, a `,` or a `:`, else 0.
-fn begun(kind: u8) -> usize
-    ensures { result ≤ 1 }
-{
-    if kind == token_table::COMMA {
-        return 1;
+    // Which place of the command holds it, or ends with it: the first is 1, and 0 is the code.
+    pub fn place_number(self) -> usize {
+        let begun = self
+            .before()
+            .iter()
+            .filter(|t| matches!(t.kind, Kind::Comma | Kind::Colon));
+        begun.count()
     }
-    if kind == token_table::COLON {
-        return 1;
-    }
-    0
-}
 
-// Which place of the command holds the i-th token, or ends with it: the first is 1, and 0 is the code.
-pub fn place_number(toks: &[u64], i: usize) -> usize {
-    let mut n: usize = 0;
-    let mut k: usize = 0;
-    while k < i {
-        n += begun(kind(toks, k));
-        k += 1;
-    }
-    n
-}
-
-// The base letter of the n-th place, counted from 1.
-pub fn base(bases: &[u8], n: usize) -> u8 {
-    if n == 0 {
-        return DECIMAL;
-    }
-    if n <= bases.len() {
-        return bases[n - 1];
-    }
-    DECIMAL
-}
-
-// Where the stretch begins that holds the i-th token: behind the last token before it whose kind is from `low` to `high`.
-fn behind(toks: &[u64], i: usize, low: u8, high: u8) -> usize {
-    let mut k = i;
-    while 0 < k {
-        if within(kind(toks, k - 1), low, high) {
-            return k;
+    // The base letter of its place.
+    pub fn base(self) -> u8 {
+        let n = self.place_number();
+        if n == 0 {
+            return DECIMAL;
         }
-        k -= 1;
+        *self.bases.get(n - 1).unwrap_or(&DECIMAL)
     }
-    k
-}
 
-// Is a kind one from `low` to `high`?
-fn within(kind: u8, low: u8, high: u8) -> bool {
-    low <= kind && kind <= high
-}
-
-// The first token of the value that holds the i-th one: behind the last `,`, `:` or `=`.
-pub fn value_start(toks: &[u64], i: usize) -> usize {
-    behind(toks, i, token_table::COMMA, token_table::EQUALS)
-}
-
-// The first token of the place that holds the i-th one, or ends with it.
-pub fn place_start(toks: &[u64], i: usize) -> usize {
-    behind(toks, i, token_table::COMMA, token_table::COLON)
-}
-
-// The first token of the block that holds the i-th one.
-pub fn block_start(toks: &[u64], i: usize) -> usize {
-    behind(toks, i, token_table::COLON, token_table::COLON)
-}
-
-// The first token from the i-th on that is a `,`, `:`, `=` or `;`: what ends a value, or a name.
-pub fn next_mark(toks: &[u64], i: usize) -> usize {
-    let mut k = i;
-    while k < toks.len() {
-        if within(kind(toks, k), token_table::COMMA, token_table::SEMICOLON) {
-            return k;
+    // Where the stretch begins that holds it: behind the last token before it of one of these kinds.
+    fn behind(self, ends: &[Kind]) -> usize {
+        match self.before().iter().rposition(|t| ends.contains(&t.kind)) {
+            Some(end) => end + 1,
+            None => 0,
         }
-        k += 1;
     }
-    k
-}
 
-// Has the place that begins at the i-th token a name?
-pub fn is_named(toks: &[u64], i: usize) -> bool {
-    kind(toks, next_mark(toks, i)) == token_table::EQUALS
+    // The first token of the value that holds it: behind the last `,`, `:` or `=`.
+    pub fn value_start(self) -> usize {
+        self.behind(&[Kind::Comma, Kind::Colon, Kind::Equals])
+    }
+
+    // The first token of the place that holds it, or ends with it.
+    pub fn place_start(self) -> usize {
+        self.behind(&[Kind::Comma, Kind::Colon])
+    }
+
+    // The first token of the block that holds it.
+    pub fn block_start(self) -> usize {
+        self.behind(&[Kind::Colon])
+    }
+
+    // The first token from it on that is a `,`, `:`, `=` or `;`: what ends a value, or a name.
+    pub fn next_mark(self) -> usize {
+        let Some(rest) = self.toks.get(self.at..) else {
+            return self.at;
+        };
+        let ends = [Kind::Comma, Kind::Colon, Kind::Equals, Kind::Semicolon];
+        let mark = rest.iter().position(|t| ends.contains(&t.kind));
+        self.at + mark.unwrap_or(rest.len())
+    }
+
+    // Has the place that begins with it a name?
+    pub fn is_named(self) -> bool {
+        match self.toks.get(self.next_mark()) {
+            Some(mark) => mark.kind == Kind::Equals,
+            None => false,
+        }
+    }
 }

@@ -1,53 +1,12 @@
 // Which group rule is broken (14), told from what stands at the place and before it.
 #![tactic(auto)]
 
-use hint_phrases::Hint;
+use hint_around::Around;
+use hint_phrases::{Group, Hint, Phrase, plain};
+use token_table::Kind;
 use units::Word;
 
-// The broken rule: keys of the catalogue's phrases. Numbers come into the first two, letters into the next two.
-const UNITS: u8 = b'u';
-
-const BELOW: u8 = b'b';
-
-const INCREMENT_BASE: u8 = b'i';
-
-const END_BASES: u8 = b'e';
-
-const GOES_ON: u8 = b'g';
-
-const WANTS_HYPHEN: u8 = b'-';
-
-const WANTS_NONE: u8 = b'&';
-
-const LOWER_OTHER: u8 = b'l';
-
-const UPPER_OTHER: u8 = b'h';
-
-const KEYED_END: u8 = b'k';
-
-const END_FRACTION: u8 = b'q';
-
-const INCREMENT_ZERO: u8 = b'0';
-
-const INCREMENT_FRACTION: u8 = b'f';
-
-const INCREMENT_OTHER: u8 = b'n';
-
-const BEHIND_INCREMENT: u8 = b'o';
-
-const SECOND_INCREMENT: u8 = b's';
-
-const NO_RANGE: u8 = b'r';
-
-const ONLY_COMPOUND: u8 = b'c';
-
-const FIVE_UNITS: u8 = b'5';
-
-const BEHIND_SHORT: u8 = b't';
-
-const BEHIND_UPPER: u8 = b'a';
-
-// A unit as an end of a range or an increment.
+// A unit as an end of a range or an increment: why it is no whole number is told, so that an Option would say too little.
 #[derive(Clone, Copy)]
 enum Number {
     Whole { letter: u8, value: u32 },
@@ -56,256 +15,181 @@ enum Number {
     Other,
 }
 
-// The rule that the t-th token breaks, in a place of this base.
-pub fn why_group(toks: &[u64], contents: &[u8], base: u8, t: usize) -> Hint {
-    let key = rule(toks, contents, base, t);
-    match key {
-        UNITS => units_differ(toks, t),
-        BELOW => below(toks, contents, t),
-        INCREMENT_BASE => bases_differ(
-            key,
-            letter_of(toks, contents, base, t),
-            letter_before(toks, contents, base, t, 2),
-        ),
-        END_BASES => bases_differ(
-            key,
-            letter_before(toks, contents, base, t, 1),
-            letter_behind(toks, contents, base, t),
-        ),
-        _ => hint_phrases::plain(key),
-    }
-}
-
-// The number of units of the argument at the t-th token differs from that of the value's first one.
-fn units_differ(toks: &[u64], t: usize) -> Hint {
-    let mut hint = hint_phrases::plain(UNITS);
-    hint.one = units_from(toks, t);
-    hint.two = units_from(toks, hint_around::value_start(toks, t));
-    hint
-}
-
-// The upper end, the t-th token, lies below the lower, which stands two tokens before it.
-fn below(toks: &[u64], contents: &[u8], t: usize) -> Hint {
-    let mut hint = hint_phrases::plain(BELOW);
-    hint.one = hint_around::start(toks, contents, t);
-    hint.two = hint_around::end(toks, contents, t);
-    if 2 <= t {
-        hint.three = hint_around::start(toks, contents, t - 2);
-        hint.four = hint_around::end(toks, contents, t - 2);
-    }
-    hint
+// One phrase into which nothing comes.
+fn group<'a>(rule: Group) -> Hint<'a> {
+    plain(Phrase::Group(rule))
 }
 
 // Two bases differ.
-fn bases_differ(key: u8, letter: u8, other: u8) -> Hint {
-    let mut hint = hint_phrases::plain(key);
-    hint.letter = letter;
-    hint.other = other;
-    hint
+fn bases_differ<'a>(rule: Group, letter: u8, other: u8) -> Hint<'a> {
+    Hint {
+        letters: (letter, other),
+        ..group(rule)
+    }
 }
 
-// The key of the rule that the t-th token breaks.
-fn rule(toks: &[u64], contents: &[u8], base: u8, t: usize) -> u8 {
-    if hint_around::is_unit(toks, t) {
-        return unit(toks, contents, base, t);
+// The rule that a token breaks.
+pub fn why_group<'a>(around: Around<'a>) -> Hint<'a> {
+    match around.kind() {
+        Some(Kind::Word | Kind::String) => unit(around),
+        Some(Kind::Dash) => hyphen(around.kind_before(2)),
+        Some(Kind::PlusPlus) => increment_sign(around.kind_before(2)),
+        Some(Kind::AmpDash) => group(Group::OnlyCompound),
+        Some(Kind::AmpAmp) => range_sign(around, false),
+        Some(Kind::AmpAmpDash) => range_sign(around, true),
+        _ => plain(Phrase::Nothing),
     }
-    let kind = hint_around::kind(toks, t);
-    let before = hint_around::kind_before(toks, t, 2);
-    if kind == token_table::DASH {
-        return hyphen(before);
-    }
-    if kind == token_table::PLUS_PLUS {
-        return increment_sign(before);
-    }
-    if kind == token_table::AMP_DASH {
-        return ONLY_COMPOUND;
-    }
-    if kind <= token_table::AMP_AMP {
-        return range_sign(toks, contents, base, t);
-    }
-    hint_phrases::UNKNOWN
 }
 
 // The rule that a unit breaks, by the separator before it.
-fn unit(toks: &[u64], contents: &[u8], base: u8, t: usize) -> u8 {
-    let before = hint_around::kind_before(toks, t, 1);
-    if before <= token_table::AMP_AMP {
-        return BELOW;
+fn unit<'a>(around: Around<'a>) -> Hint<'a> {
+    match around.kind_before(1) {
+        Some(Kind::AmpAmp | Kind::AmpAmpDash) => below(around),
+        Some(Kind::Amp) => units_differ(around),
+        Some(Kind::PlusPlus) => increment(around),
+        _ => plain(Phrase::Nothing),
     }
-    if before == token_table::AMP {
-        return UNITS;
-    }
-    if before == token_table::PLUS_PLUS {
-        return increment(toks, contents, base, t);
-    }
-    hint_phrases::UNKNOWN
 }
 
-// How many units joined by `-` begin with the i-th token.
-fn units_from(toks: &[u64], i: usize) -> usize {
-    let mut n: usize = 1;
-    let mut k = i;
-    while k < toks.len() {
-        if hint_around::kind(toks, k + 1) != token_table::DASH {
-            return n;
-        }
-        n += 1;
-        k += 2;
+// The upper end lies below the lower, which stands two tokens before it.
+fn below<'a>(around: Around<'a>) -> Hint<'a> {
+    let lower = match around.at.checked_sub(2) {
+        Some(at) => Around { at, ..around }.content(),
+        None => b"",
+    };
+    Hint {
+        stretches: (around.content(), lower),
+        ..group(Group::Below)
     }
-    n
 }
 
-// What is wrong with the increment, the t-th token.
-fn increment(toks: &[u64], contents: &[u8], base: u8, t: usize) -> u8 {
-    match token_number(toks, contents, base, t) {
-        Number::Whole { letter, value } => {
-            if value == 0 {
-                return INCREMENT_ZERO;
+// The number of units of the argument that begins with a token differs from that of the value's first one.
+fn units_differ<'a>(around: Around) -> Hint<'a> {
+    let first = Around {
+        at: around.value_start(),
+        ..around
+    };
+    Hint {
+        numbers: (units_from(around), units_from(first)),
+        ..group(Group::UnitsDiffer)
+    }
+}
+
+// How many units joined by `-` begin with a token.
+fn units_from(around: Around) -> usize {
+    let behind = around.toks.iter().skip(around.at).skip(1).step_by(2);
+    1 + behind.take_while(|t| t.kind == Kind::Dash).count()
+}
+
+// What is wrong with the increment.
+fn increment<'a>(around: Around) -> Hint<'a> {
+    match as_number(around) {
+        Number::Whole { value: 0, .. } => group(Group::IncrementZero),
+        Number::Whole { letter, .. } => {
+            let ends = letter_before(around, 2);
+            if letter == ends {
+                return plain(Phrase::Nothing);
             }
-            if letter == letter_before(toks, contents, base, t, 2) {
-                return hint_phrases::UNKNOWN;
-            }
-            INCREMENT_BASE
+            bases_differ(Group::IncrementBase, letter, ends)
         }
-        Number::Fraction => INCREMENT_FRACTION,
-        _ => INCREMENT_OTHER,
+        Number::Fraction => group(Group::IncrementFraction),
+        Number::Keyed | Number::Other => group(Group::IncrementOther),
     }
 }
 
-// The base of the number `back` tokens before the t-th; 0 where none is there.
-fn letter_before(toks: &[u64], contents: &[u8], base: u8, t: usize, back: usize) -> u8 {
-    if back <= t {
-        return letter_of(toks, contents, base, t - back);
-    }
-    0
-}
-
-// The base of the number behind the t-th token; 0 where none is there.
-fn letter_behind(toks: &[u64], contents: &[u8], base: u8, t: usize) -> u8 {
-    if t < toks.len() {
-        return letter_of(toks, contents, base, t + 1);
-    }
-    0
-}
-
-// The base of the number that the i-th token is; 0 where it is none.
-fn letter_of(toks: &[u64], contents: &[u8], base: u8, i: usize) -> u8 {
-    match token_number(toks, contents, base, i) {
-        Number::Whole { letter, value } => letter,
+// The base of the number `back` tokens before a token; 0 where none is there.
+fn letter_before(around: Around, back: usize) -> u8 {
+    let Some(at) = around.at.checked_sub(back) else {
+        return 0;
+    };
+    match as_number(Around { at, ..around }) {
+        Number::Whole { letter, .. } => letter,
         _ => 0,
     }
 }
 
-// The i-th token as a number.
-fn token_number(toks: &[u64], contents: &[u8], base: u8, i: usize) -> Number {
-    if hint_around::kind(toks, i) == token_table::WORD {
-        return word_number(hint_around::content(toks, contents, i), base);
+// A token as a number.
+fn as_number(around: Around) -> Number {
+    if around.kind() != Some(Kind::Word) {
+        return Number::Other;
     }
-    Number::Other
-}
-
-// A word as a number.
-fn word_number(word: &[u8], base: u8) -> Number {
-    match units::read_word(word, base) {
-        Word::Numeral {
-            letter,
-            fraction,
-            value,
-        } => {
-            if fraction == 0 {
-                return Number::Whole { letter, value };
-            }
-            Number::Fraction
-        }
-        Word::Keyed { skip } => Number::Keyed,
+    match units::read_word(around.content(), around.base()) {
+        Ok(
+            Word::Numeral {
+                letter,
+                fraction: 0,
+                value,
+            },
+        ) => Number::Whole { letter, value },
+        Ok(Word::Numeral { .. }) => Number::Fraction,
+        Ok(Word::Keyed { .. }) => Number::Keyed,
         _ => Number::Other,
     }
 }
 
 // The rule that a `-` breaks: `before` is the separator before the unit on its left.
-fn hyphen(before: u8) -> u8 {
-    if before <= token_table::AMP_AMP {
-        return BEHIND_UPPER;
+fn hyphen<'a>(before: Option<Kind>) -> Hint<'a> {
+    match before {
+        Some(Kind::AmpAmp | Kind::AmpAmpDash) => group(Group::BehindUpper),
+        Some(Kind::AmpDash) => group(Group::BehindShort),
+        Some(Kind::PlusPlus) => group(Group::BehindIncrement),
+        Some(Kind::Dash) => group(Group::FiveUnits),
+        _ => plain(Phrase::Nothing),
     }
-    if before == token_table::AMP_DASH {
-        return BEHIND_SHORT;
-    }
-    if before == token_table::PLUS_PLUS {
-        return BEHIND_INCREMENT;
-    }
-    if before == token_table::DASH {
-        return FIVE_UNITS;
-    }
-    hint_phrases::UNKNOWN
 }
 
 // The rule that a `++` breaks.
-fn increment_sign(before: u8) -> u8 {
-    if before == token_table::PLUS_PLUS {
-        return SECOND_INCREMENT;
+fn increment_sign<'a>(before: Option<Kind>) -> Hint<'a> {
+    match before {
+        Some(Kind::PlusPlus) => group(Group::SecondIncrement),
+        _ => group(Group::NoRange),
     }
-    NO_RANGE
 }
 
-// The rule that the `&&` or `&&-` at the t-th token breaks.
-fn range_sign(toks: &[u64], contents: &[u8], base: u8, t: usize) -> u8 {
-    let before = hint_around::kind_before(toks, t, 2);
-    if is_range(before) {
-        return GOES_ON;
+// The rule that a `&&` breaks, or a `&&-`, which has a hyphen: the argument on its left is compound or simple, by the separator before its
+// last unit.
+fn range_sign<'a>(around: Around, hyphen: bool) -> Hint<'a> {
+    let before = around.kind_before(2);
+    let compound = matches!(before, Some(Kind::Dash | Kind::AmpDash));
+    match before {
+        Some(Kind::AmpAmp | Kind::AmpAmpDash | Kind::PlusPlus) => group(Group::GoesOn),
+        _ if hyphen == compound => ends(around),
+        _ if compound => group(Group::WantsHyphen),
+        _ => group(Group::WantsNone),
     }
-    if hint_around::kind(toks, t) == own_sign(before) {
-        return ends(toks, contents, base, t);
-    }
-    if own_sign(before) == token_table::AMP_AMP {
-        return WANTS_NONE;
-    }
-    WANTS_HYPHEN
 }
 
-// Does a separator of this kind stand only in a range?
-fn is_range(kind: u8) -> bool {
-    kind <= token_table::AMP_AMP || kind == token_table::PLUS_PLUS
-}
-
-// The separator of the range of an argument, by the separator before its last unit: compound or simple.
-fn own_sign(before: u8) -> u8 {
-    if before == token_table::DASH {
-        return token_table::AMP_AMP_DASH;
-    }
-    if before == token_table::AMP_DASH {
-        return token_table::AMP_AMP_DASH;
-    }
-    token_table::AMP_AMP
-}
-
-// What is wrong with the ends around the t-th token.
-fn ends(toks: &[u64], contents: &[u8], base: u8, t: usize) -> u8 {
+// What is wrong with the ends around a token.
+fn ends<'a>(around: Around) -> Hint<'a> {
+    let t = around.at;
     if t == 0 {
-        return hint_phrases::UNKNOWN;
+        return plain(Phrase::Nothing);
     }
-    if t < toks.len() {
-        let upper = token_number(toks, contents, base, t + 1);
-        return match token_number(toks, contents, base, t - 1) {
-            Number::Whole { letter, value } => upper_end(letter, upper),
-            Number::Fraction => END_FRACTION,
-            Number::Keyed => KEYED_END,
-            Number::Other => LOWER_OTHER,
-        };
+    if around.toks.len() <= t {
+        return plain(Phrase::Nothing);
     }
-    hint_phrases::UNKNOWN
+    let upper = as_number(Around {
+        at: t + 1,
+        ..around
+    });
+    match as_number(Around {
+        at: t - 1,
+        ..around
+    }) {
+        Number::Whole { letter, .. } => upper_end(letter, upper),
+        Number::Fraction => group(Group::EndFraction),
+        Number::Keyed => group(Group::KeyedEnd),
+        Number::Other => group(Group::LowerOther),
+    }
 }
 
 // What is wrong with the upper end behind a lower one of this base.
-fn upper_end(lower: u8, upper: Number) -> u8 {
+fn upper_end<'a>(lower: u8, upper: Number) -> Hint<'a> {
     match upper {
-        Number::Whole { letter, value } => {
-            if letter == lower {
-                return hint_phrases::UNKNOWN;
-            }
-            END_BASES
-        }
-        Number::Fraction => END_FRACTION,
-        Number::Keyed => KEYED_END,
-        Number::Other => UPPER_OTHER,
+        Number::Whole { letter, .. } if letter == lower => plain(Phrase::Nothing),
+        Number::Whole { letter, .. } => bases_differ(Group::EndBases, lower, letter),
+        Number::Fraction => group(Group::EndFraction),
+        Number::Keyed => group(Group::KeyedEnd),
+        Number::Other => group(Group::UpperOther),
     }
 }

@@ -1,50 +1,53 @@
-// How a hint's characters, numbers and stretches of bytes come into a phrase.
-use crate::Hint;
+// How a hint is written: its phrases, with a blank between two, and what stands for their inserts.
+use crate::{Hint, Phrase};
+use console_window::Shown;
+use std::fmt;
 
-// In a phrase, what stands before the letter of an insert.
-const MARK: u8 = b'$';
-// A mark and its letter.
-const INSERT: usize = 2;
+// In a phrase, what stands before the letter of an insert. Inserts are marks in a text: a `write!` for each phrase would be a call for each, and
+// no plainer; the edit letter_past_the_end is on the loop that fills them.
+const MARK: char = '$';
+// The bytes of that letter.
+const LETTER: usize = 1;
 
-// Writes a phrase, with what stands for its inserts.
-pub fn write_filled(fd: i32, phrase: &[u8], line: &[u8], contents: &[u8], hint: Hint) -> bool {
-    let mut at: usize = 0;
-    while at < phrase.len() {
-        let mark = crate::find::next(phrase, at, MARK);
-        if !io::write_all(fd, &phrase[at..mark]) {
-            return false;
+impl fmt::Display for Hint<'_> {
+    fn fmt<W: fmt::Write>(&self, f: &mut fmt::Formatter<W>) -> fmt::Result {
+        if let Some(lead) = self.lead {
+            self.fill(f, lead)?;
+            f.write_str(" ")?;
         }
-        if phrase.len() - mark < INSERT {
-            return true;
+        self.fill(f, self.phrase)?;
+        if let Some(tail) = self.tail {
+            f.write_str(" ")?;
+            self.fill(f, tail)?;
         }
-        if !write_insert(fd, line, contents, hint, phrase[mark + 1]) {
-            return false;
-        }
-        at = mark + INSERT;
-    }
-    true
-}
-
-// Writes what stands for a letter.
-fn write_insert(fd: i32, line: &[u8], contents: &[u8], hint: Hint, letter: u8) -> bool {
-    match letter {
-        b'c' => console_window::write_bytes(fd, &[hint.letter]),
-        b'd' => console_window::write_bytes(fd, &[hint.other]),
-        b'n' => io::print_decimal(fd, hint.one as u64),
-        b'm' => io::print_decimal(fd, hint.two as u64),
-        b'w' => write_stretch(fd, line, hint.one, hint.two),
-        b'v' => write_stretch(fd, line, hint.three, hint.four),
-        b'x' => write_stretch(fd, contents, hint.one, hint.two),
-        _ => write_stretch(fd, contents, hint.three, hint.four),
+        Ok(())
     }
 }
 
-// Writes the bytes from `from` up to `to`.
-fn write_stretch(fd: i32, bytes: &[u8], from: usize, to: usize) -> bool {
-    if from <= to {
-        if to <= bytes.len() {
-            return console_window::write_bytes(fd, &bytes[from..to]);
+impl Hint<'_> {
+    // Writes a phrase, with what stands for its inserts.
+    fn fill<W: fmt::Write>(&self, f: &mut fmt::Formatter<W>, phrase: Phrase) -> fmt::Result {
+        let mut parts = phrase.text().split(MARK);
+        f.write_str(parts.next().unwrap_or_default())?;
+        for part in parts {
+            if part.len() < LETTER {
+                return Ok(());
+            }
+            self.insert(f, part.as_bytes()[0])?;
+            f.write_str(part.get(LETTER..).unwrap_or_default())?;
+        }
+        Ok(())
+    }
+
+    // Writes what stands for a letter.
+    fn insert<W: fmt::Write>(&self, f: &mut fmt::Formatter<W>, letter: u8) -> fmt::Result {
+        match letter {
+            b'c' => write!(f, "{}", Shown(&[self.letters.0])),
+            b'd' => write!(f, "{}", Shown(&[self.letters.1])),
+            b'n' => write!(f, "{}", self.numbers.0),
+            b'm' => write!(f, "{}", self.numbers.1),
+            b'x' => write!(f, "{}", Shown(self.stretches.0)),
+            _ => write!(f, "{}", Shown(self.stretches.1)),
         }
     }
-    true
 }

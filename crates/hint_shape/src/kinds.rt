@@ -1,138 +1,114 @@
 // Why a place differs from the first one of its block (9).
 ghost use Rattle.std.specs.Prelude.{◌≤◌};
 
-use hint_phrases::Hint;
+use hint_around::Around;
+use hint_phrases::{Hint, Kind, Phrase, plain};
 
 // A numeral with so many digits, the fraction's among them, is within every limit.
 const MOST_DIGITS: usize = 9;
 
-// How a place differs from the first of its block: that one is named or not, or empty; this one is the other, or empty. FRACTION tells the
-// fraction that was meant, COMMA does not.
-const FRACTION: u8 = b'f';
-
-const COMMA: u8 = b'c';
-
-const UNNAMED: u8 = b'u';
-
-const OMITTED: u8 = b'o';
-
-const NAMED: u8 = b'n';
-
-const NAMED_AFTER_OMITTED: u8 = b'e';
-
-// How the place that begins at the t-th token, or is empty and ends with it, differs from the first of its block.
-pub fn why_kind(line: &[u8], bases: &[u8], toks: &[u64], contents: &[u8], t: usize) -> Hint {
-    let first = hint_around::block_start(toks, t);
-    if hint_around::is_named(toks, first) {
-        return unnamed(line, bases, toks, contents, t);
+// How the place that begins at a token, or is empty and ends with it, differs from the first of its block.
+pub fn why_kind<'a>(line: &'a [u8], around: Around) -> Hint<'a> {
+    let first = Around {
+        at: around.block_start(),
+        ..around
+    };
+    if first.is_named() {
+        return unnamed(line, around);
     }
-    if hint_around::next_mark(toks, first) == first {
-        return hint_phrases::plain(NAMED_AFTER_OMITTED);
+    if first.next_mark() == first.at {
+        return plain(Phrase::Kind(Kind::NamedAfterOmitted));
     }
-    hint_phrases::plain(NAMED)
+    plain(Phrase::Kind(Kind::Named))
 }
 
 // How a place without a name differs from a first one with a name.
-fn unnamed(line: &[u8], bases: &[u8], toks: &[u64], contents: &[u8], t: usize) -> Hint {
-    if hint_around::next_mark(toks, t) == t {
-        return hint_phrases::plain(OMITTED);
+fn unnamed<'a>(line: &'a [u8], around: Around) -> Hint<'a> {
+    if around.next_mark() == around.at {
+        return plain(Phrase::Kind(Kind::Omitted));
     }
-    if 2 <= t {
-        if is_fraction(bases, toks, contents, t) {
-            return fraction(line, toks, contents, t);
-        }
+    if 2 <= around.at && is_fraction(around) {
+        return fraction(line, around);
     }
-    hint_phrases::plain(UNNAMED)
+    plain(Phrase::Kind(Kind::Unnamed))
+}
+
+// The token before the comma.
+fn whole(around: Around) -> Around
+    requires { 2 ≤ around.at }
+{
+    Around {
+        at: around.at - 2,
+        ..around
+    }
 }
 
 // Do decimal digits stand before and behind the comma, in a place of base D?
-fn is_fraction(bases: &[u8], toks: &[u64], contents: &[u8], t: usize) -> bool
-    requires { 2 ≤ t }
+fn is_fraction(around: Around) -> bool
+    requires { 2 ≤ around.at }
 {
-    if is_number(toks, contents, t) {
-        if is_number(toks, contents, t - 2) {
-            return hint_around::base(bases, hint_around::place_number(toks, t - 2)) == b'D';
-        }
-    }
-    false
+    is_number(around) && is_number(whole(around)) && whole(around).base() == b'D'
 }
 
-// Is the i-th token a word of decimal digits?
-fn is_number(toks: &[u64], contents: &[u8], i: usize) -> bool {
-    if hint_around::kind(toks, i) == token_table::WORD {
-        return units::all_decimal(hint_around::content(toks, contents, i), 0);
-    }
-    false
+// Is a token a word of decimal digits?
+fn is_number(around: Around) -> bool {
+    around.kind() == Some(token_table::Kind::Word) && units::all_decimal(around.content(), 0)
 }
 
-// The fraction that was meant, where both places are a numeral each, few digits in all, with nothing between their bytes.
-fn fraction(line: &[u8], toks: &[u64], contents: &[u8], t: usize) -> Hint
-    requires { 2 ≤ t }
+// A comma for a full stop, and the fraction that was meant, where that can be told.
+fn fraction<'a>(line: &'a [u8], around: Around) -> Hint<'a>
+    requires { 2 ≤ around.at }
 {
-    let whole = hint_around::content(toks, contents, t - 2).len();
-    let part = hint_around::content(toks, contents, t).len();
-    let mut hint = hint_phrases::plain(COMMA);
-    hint.one = hint_around::place(toks, hint_around::place_start(toks, t - 2)) as usize;
-    hint.two = hint_around::place(toks, t - 1) as usize;
-    hint.three = hint_around::place(toks, t) as usize;
-    hint.four = hint.three + part;
-    if is_short(whole, part) {
-        if stands_alone(toks, t) {
-            if is_plain(line, hint.one, hint.four) {
-                hint.key = FRACTION;
-            }
-        }
+    match meant(line, around) {
+        Some(stretches) => Hint {
+            stretches,
+            ..plain(Phrase::Kind(Kind::Fraction))
+        },
+        None => plain(Phrase::Kind(Kind::Comma)),
     }
-    hint
+}
+
+// What stands before and behind the comma, where both places are a numeral each, few digits in all, with nothing between their bytes.
+fn meant<'a>(line: &'a [u8], around: Around) -> Option<(&'a [u8], &'a [u8])>
+    requires { 2 ≤ around.at }
+{
+    let whole = whole(around);
+    let name = Around {
+        at: whole.place_start(),
+        ..around
+    };
+    let comma = Around {
+        at: around.at - 1,
+        ..around
+    };
+    let part = around.content();
+    if !is_short(whole.content().len(), part.len()) || !stands_alone(around) {
+        return None;
+    }
+    let before = line.get(name.place()?..comma.place()?)?;
+    let joint = line.get(name.place()?..around.place()?)?;
+    let behind = line.get(around.place()?..)?.get(..part.len())?;
+    if is_plain(joint) && is_plain(behind) {
+        Some((before, behind))
+    } else {
+        None
+    }
 }
 
 // Are so many digits before and behind the full stop few?
 fn is_short(whole: usize, part: usize) -> bool {
-    if MOST_DIGITS < whole {
-        return false;
-    }
-    part <= MOST_DIGITS - whole
+    whole <= MOST_DIGITS && part <= MOST_DIGITS - whole
 }
 
-// Is the t-th token a whole place, and is the one before the comma a whole value?
-fn stands_alone(toks: &[u64], t: usize) -> bool {
-    if hint_around::kind_before(toks, t, 3) == token_table::EQUALS {
-        return ends_behind(hint_around::next_mark(toks, t), t);
-    }
-    false
+// Is the token a whole place, and is the one before the comma a whole value?
+fn stands_alone(around: Around) -> bool {
+    let end = around.next_mark();
+    around.kind_before(3) == Some(token_table::Kind::Equals)
+        && around.at < end
+        && end - around.at == 1
 }
 
-// Is the end the next index behind t?
-fn ends_behind(end: usize, t: usize) -> bool {
-    if t < end {
-        return end - t == 1;
-    }
-    false
-}
-
-// Are the bytes from `from` up to `to` there, and none of them a format effector or a comment's?
-fn is_plain(line: &[u8], from: usize, to: usize) -> bool {
-    if line.len() < to {
-        return false;
-    }
-    let mut i = from;
-    while i < to {
-        if is_plain_byte(line[i]) {
-            i += 1;
-        } else {
-            return false;
-        }
-    }
-    true
-}
-
-// May a byte stand in a name, a `=`, a numeral or a comma?
-fn is_plain_byte(b: u8) -> bool {
-    if digits::is_alnum(b) {
-        return true;
-    }
-    if b == b'-' {
-        return true;
-    }
-    b == b'=' || b == b','
+// Does each byte stand in a name, a `=`, a numeral or a comma?
+fn is_plain(bytes: &[u8]) -> bool {
+    bytes.iter().all(|b| digits::is_alnum(*b) || matches!(*b, b'-' | b'=' | b','))
 }

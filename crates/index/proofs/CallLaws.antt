@@ -7,14 +7,15 @@ use native.Mathlib.Omega.{arith}
 use lib.ListN.{length, take, drop, length-append}
 use lib.Seq.{take_at}
 use Rattle.laws.specs.Over.{over}
-use Rattle.rules.specs.declared.Answer.{Answer}
-use Rattle.rules.specs.declared.Answer.TheVariants.{Done, Refused}
+use Rattle.std.proofs.Common.{Ok, Err}
+use Rattle.rules.specs.declared.Refusal.{Refusal}
+use Rattle.rules.specs.Reasons.{refusal}
 use Rattle.rules.specs.Refusals.{Res, ok, map_r, no_room, most_places}
 use Rattle.rules.specs.Commands.{Command}
 use Rattle.rules.specs.Records.{encode}
 use Rattle.rules.specs.WellFormed.{well_formed, record_of}
 use Rattle.rules.specs.Indexes.{offsets}
-use Rattle.rules.specs.Answers.{fitted, indexed, Promise, RowPromise}
+use Rattle.rules.specs.Answers.{Answer, fitted, indexed, Promise, RowPromise}
 use Rattle.rules.proofs.EncodeDecode.{record_at}
 use Rattle.rules.proofs.Indexed.{index_no_room, index_no_slots, index_ok, index_is, indexed_fitted}
 use Rattle.rules.proofs.ResultLaws.{by_res}
@@ -25,15 +26,15 @@ use Rattle.index.specs.Rows.{Indexable, Fills, Recorded}
 
 module _ (c : Command) (slots : ℕ) (old : List ℕ) where
   -- 17 of the record
-  pub no_room_lem : {n : ℕ} → n ≡ length (encode c) → length old < n → Recorded (ok c) slots old (Refused no_room n) old
+  pub no_room_lem : {n : ℕ} → n ≡ length (encode c) → length old < n → Recorded (ok c) slots old (Err (refusal no_room n)) old
   no_room_lem e h = let w = index_no_room old slots (ok c) c refl (omega arith) in record { answers = rw (w, e); holds = rw w }
 
   module _ (room : length (encode c) ≤ length old) where
     -- 17 of the row
-    pub no_slots_lem : {m : ℕ} → m ≡ length (offsets c) → slots < m → Recorded (ok c) slots old (Refused no_room m) old
+    pub no_slots_lem : {m : ℕ} → m ≡ length (offsets c) → slots < m → Recorded (ok c) slots old (Err (refusal no_room m)) old
     no_slots_lem e h = let w = index_no_slots old slots (ok c) c refl room (omega arith) in record { answers = rw (w, e); holds = rw w }
 
-    pub both_fit : {n : ℕ} {new : List ℕ} → length (offsets c) ≤ slots → n ≡ length (encode c) → new ≡ over (encode c) old → Recorded (ok c) slots old (Done n) new
+    pub both_fit : {n : ℕ} {new : List ℕ} → length (offsets c) ≤ slots → n ≡ length (encode c) → new ≡ over (encode c) old → Recorded (ok c) slots old (Ok n) new
     both_fit h e q = let w = index_ok old slots (ok c) c refl room h in record { answers = rw (w, e); holds = rw w q }
 
 -- ---- what it has written
@@ -51,14 +52,14 @@ module _ (found : Res Command) (old row : List ℕ) {r : Answer} {new : List ℕ
   abbrev written : Res Command
   written = indexed (length old) (length row) found
 
-  pub row_refused : {n p : ℕ} → r ≡ Refused n p → RowPromise written old row (Refused n p) new row
-  row_refused {n} {p} e =
+  pub row_refused : {x : Refusal} → r ≡ Err x → RowPromise written old row (Err x) new row
+  row_refused {x} e =
       by_res written
       (λ c y.
-      let z : Refused n p ≡ Done (length (encode c)) = sym e ∙ q.answers ∙ rw y in
+      let z : Err x ≡ Ok (length (encode c)) = sym e ∙ q.answers ∙ rw y in
       let w : ◌≡◌ {A = ℕ} 0 1 = cc in absurd (omega arith))
       (λ m o y.
-      let z : Refused n p ≡ Refused m o = sym e ∙ q.answers ∙ rw y in
+      let z : Err x ≡ Err (refusal m o) = sym e ∙ q.answers ∙ rw y in
       let new_is : new ≡ old = q.holds ∙ rw y in
       record { answers = rw y z; holds = rw y new_is; fills = rw y })
 
@@ -71,17 +72,17 @@ module _ (found : Res Command) (old row : List ℕ) {r : Answer} {new : List ℕ
     bytes : new ≡ over (encode c) old
     slots : length (offsets c) ≤ length row
 
-  module _ {n : ℕ} (e : r ≡ Done n) where
+  module _ {n : ℕ} (e : r ≡ Ok n) where
     is_done : Is n
     is_done =
         by_res written
         (λ c y.
-        let z : Done n ≡ Done (length (encode c)) = sym e ∙ q.answers ∙ rw y in
+        let z : Ok n ≡ Ok (length (encode c)) = sym e ∙ q.answers ∙ rw y in
         let w : n ≡ length (encode c) = cc in
         let new_is : new ≡ over (encode c) old = q.holds ∙ rw y in
         index_is old (length row) found c y (λ a room many. record { c = c; is = y; found_is = a; size = w; bytes = new_is; slots = many }))
         (λ m o y.
-        let z : Done n ≡ Refused m o = sym e ∙ q.answers ∙ rw y in
+        let z : Ok n ≡ Err (refusal m o) = sym e ∙ q.answers ∙ rw y in
         let w : ◌≡◌ {A = ℕ} 0 1 = cc in absurd (omega arith))
 
     pub row_cut : n ≤ length new
@@ -97,7 +98,7 @@ module _ (found : Res Command) (old row : List ℕ) {r : Answer} {new : List ℕ
       pub row_fits : Indexable (take n new) (length row)
       row_fits = record { tree = is_done.c; is = record_there; room = is_done.slots }
 
-      pub row_done : {filled : List ℕ} → Fills (take n new) row filled → RowPromise written old row (Done n) new filled
+      pub row_done : {filled : List ℕ} → Fills (take n new) row filled → RowPromise written old row (Ok n) new filled
       row_done f =
           let w : Is n = is_done in
-          record { answers = rw w.is (ap Done w.size); holds = rw w.is w.bytes; fills = rw w.is (f w.c record_there) }
+          record { answers = rw w.is (ap Ok w.size); holds = rw w.is w.bytes; fills = rw w.is (f w.c record_there) }

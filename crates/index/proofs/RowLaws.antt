@@ -4,7 +4,7 @@ use mathlib.Core.Bool.{Bool, true, false, false≢true}
 use mathlib.Core.List.{List, [], ◌∷◌, ◌++◌, map, append_assoc, append-nil}
 use Prim.Native.Nat.{ℕ, suc, ◌+◌, ◌-◌, ◌≤◌, ◌<◌}
 use native.Mathlib.Omega.{arith}
-use borrow.Author.Tests.{eq-eqb, ne_eqb, lt-ltb, le-ltb, ltb-true, ltb-false, leb-true, le-leb}
+use borrow.Author.Tests.{eq-eqb, ne_eqb, ltb-true, ltb-false, leb-true, le-leb}
 use lib.Dec.{eqb, ltb, leb}
 use lib.ListN.{length, get_or, drop, set, length-append, length-drop, length-set, drop_of_length-le}
 use lib.Seq.{drop_at}
@@ -69,9 +69,6 @@ here {rec} {c} {at} {done} v h = go v.left v.stands v.all
     go (field t w ∷ fs) e a = record { tag = t; content = w; others = fs; is = e; own = sym (tag_there rec at) ∙ ap tag_of e; all = a }
 
 module _ {rec : List ℕ} {c : Command} {at : ℕ} {done : List ℕ} (v : Passing rec c at done) where
-  passing_whole : Whole rec at
-  passing_whole = record { fs = v.left; is = v.stands; inside = v.inside }
-
   module _ (h : at < length rec) {next : ℕ} (e : next ≡ at + field_size (drop at rec)) where
     abbrev there : Here rec c at done
     there = here v h
@@ -153,12 +150,6 @@ filling_none {rec} d = record {
 }
 
 module _ {rec old row : List ℕ} {at i : ℕ} (v : Filling rec old at i row) where
-  pub filling_whole : Whole rec at
-  filling_whole = passing_whole v.passing
-
-  pub filling_small : at < length rec → at < 4294967296
-  filling_small h = omega (arith, v.passing.small)
-
   module _ (h : at < length rec) where
     pub filling_room : get_or rec at 0 ≡ place_tag → i < length row
     filling_room t =
@@ -211,15 +202,6 @@ pub record Comparing (rec row : List ℕ) (at i : ℕ) : Type 0 where
 pub comparing_none : {rec : List ℕ} (row : List ℕ) → WellFormed rec → Comparing rec row head_size 0
 comparing_none {rec} row d = record { tree = d.tree; is = d.is; done = []; passing = passing_none rec d.tree d.is; size = refl; few = omega arith; right = λ os. omega arith }
 
--- whether a slot is right
-pub slot_there : (row : List ℕ) (i at : ℕ) → i < length row → eqb (get_or row i 0) at ≡ is_right row i at
-unfolding is_right
-slot_there row i at h = rw (lt-ltb i (length row) h)
-
-pub slot_missing : (row : List ℕ) (i at : ℕ) → length row ≤ i → false ≡ is_right row i at
-unfolding is_right
-slot_missing row i at h = rw (le-ltb i (length row) h)
-
 -- one slot more that is right; and one that is not
 module _ (row : List ℕ) (i at : ℕ) (os : List ℕ) where
   one_right : is_right row i at ≡ true → agreeing (at ∷ os) (drop i row) ≡ suc (agreeing os (drop (i + 1) row))
@@ -237,9 +219,6 @@ module _ (row : List ℕ) (i at : ℕ) (os : List ℕ) where
       (λ y. let few : length row ≤ i = omega (arith, ltb-false i (length row) y) in rw (drop_of_length-le row few))
 
 module _ {rec row : List ℕ} {at i : ℕ} (v : Comparing rec row at i) where
-  pub comparing_whole : Whole rec at
-  comparing_whole = passing_whole v.passing
-
   answer_is : {r : ℕ} → agreeing (offsets v.tree) row ≡ r → Agrees rec row r
   answer_is q c e = let same : v.tree ≡ c = ok_inj (sym v.is ∙ e) in sym q ∙ ap (λ (x : Command). agreeing (offsets x) row) same
 

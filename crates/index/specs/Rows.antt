@@ -2,13 +2,12 @@
 use Rattle.std.specs.Prelude.{◌≡◌, Bool, false, List, ℕ, ◌+◌, ◌≤◌, eqb, ltb, length, get_or}
 use Rattle.laws.specs.Cases.{pick}
 use Rattle.laws.specs.Over.{over}
-use Rattle.rules.specs.declared.Answer.{Answer}
 use Rattle.rules.specs.Refusals.{Res, ok, map_r}
 use Rattle.rules.specs.Commands.{Place, Command}
 use Rattle.rules.specs.Records.{place_fields, bytes_of, encode}
 use Rattle.rules.specs.WellFormed.{record_of}
 use Rattle.rules.specs.Indexes.{offsets, agreeing}
-use Rattle.rules.specs.Answers.{indexed, Promise}
+use Rattle.rules.specs.Answers.{Answer, indexed, Promise}
 use Rattle.rules.proofs.RowPoints.{StandsAt}
 
 -- the bytes are a command's record

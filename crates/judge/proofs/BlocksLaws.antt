@@ -1,12 +1,12 @@
 -- Blocks from the front: a block's kind is its field's letter, its places stand behind; each turn of the loop over blocks reads one more.
-use mathlib.Core.Path.{◌≡◌, refl, sym, ap, ap₂, ◌∙◌, subst}
+use mathlib.Core.Path.{◌≡◌, refl, sym, ap, ap₂, ◌∙◌}
 use mathlib.Core.Bool.{Bool, true, false, false≢true}
 use mathlib.Core.List.{List, [], ◌∷◌, ◌++◌, map, append_assoc, append-nil}
 use mathlib.Core.Option.{none, some}
 use Prim.Native.Nat.{ℕ, suc, ◌+◌, ◌-◌, ◌*◌, ◌≤◌, ◌<◌}
 use native.Mathlib.Omega.{arith}
-use borrow.Author.Tests.{eq-eqb, ne_eqb}
-use lib.Dec.{eqb}
+use borrow.Author.Tests.{eq-eqb, ne_eqb, leb-true, leb-false}
+use lib.Dec.{eqb, leb}
 use lib.ListN.{length, get_or, take, drop, length-append, drop_of_length-le}
 use lib.Seq.{drop-cons}
 use Rattle.laws.specs.Cases.{by_bool}
@@ -15,8 +15,8 @@ use Rattle.rules.specs.Refusals.{most_blocks, most_places, most_orders}
 use Rattle.rules.specs.Commands.{mult, Block, block, places_of, all_places}
 use Rattle.rules.specs.Records.{block_tag, many, block_fields, kind_of_byte}
 use Rattle.rules.specs.Orders.{block_count}
-use Rattle.record_walk.specs.declared.Found.{Found}
-use Rattle.record_walk.specs.declared.Found.TheVariants.{Field, Nothing}
+use Rattle.record_walk.specs.Tags.{number}
+use Rattle.record_walk.specs.declared.Field.{Field}
 use Rattle.record_walk.specs.Fields.{fits, field_at}
 use Rattle.record_walk.specs.Fronts.{head_tag, before, several}
 use Rattle.record_walk.specs.Spans.{size, place_spans, block_head, block_spans}
@@ -26,11 +26,13 @@ use Rattle.rules.proofs.FieldLaws.{many_append}
 use Rattle.record_walk.proofs.FrontLaws.{before_nil, going_end, going_full, going_bad, going_more}
 use Rattle.judge_place.specs.Places.{is_tag}
 use Rattle.judge.specs.Blocks.{places, is_kind, next_block, with_block, some_blocks, blocks}
-use Rattle.judge.specs.Judged.{per_place, row_length, PlacesAre, IsPlaces, BlockIs, IsBlock, BlocksAre}
+use Rattle.judge.specs.Judged.{per_place, row_length, PlacesAre, IsPlaces, BlockIs, IsBlock, BlocksAre, IsBlocks}
 use Rattle.judge.proofs.RecordBytes.{state}
 use Rattle.judge.proofs.SpanLaws.{block_spans_more}
 use Rattle.judge.specs.declared.Places.{Places}
-use Rattle.judge.specs.declared.Places.TheVariants.{Are, Bad as NoPlaces}
+use Rattle.judge.specs.declared.Judged.{Judged}
+use Rattle.std.specs.Bool.{then_some}
+use Rattle.std.proofs.Common.{Option, Some, None}
 
 -- ---- one block
 
@@ -49,12 +51,18 @@ kind_no c h =
 pub block_inside : (rec : List ℕ) (at : ℕ) → head_tag (drop at rec) ≡ block_tag → at ≤ length rec
 block_inside rec at h = omega (arith, tag_inside rec at (omega arith))
 
-pub block_gone : (rec : List ℕ) (at n o : ℕ) {r : Found} → r ≡ Nothing → r ≡ field_at rec at → next_block (state n o) (drop at rec) ≡ none
+pub block_gone : (rec : List ℕ) (at n o : ℕ) {r : Option Field} → r ≡ None → r ≡ field_at rec at → next_block (state n o) (drop at rec) ≡ none
 unfolding next_block
 block_gone rec at n o e q = rw (nothing_there rec at e q)
 
-module _ (rec : List ℕ) (at : ℕ) {t s j : ℕ} {r : Found} (e : r ≡ Field t s j) (q : r ≡ field_at rec at) (two : head_tag (drop at rec) ≡ block_tag) where
-  letter : Lettered rec at t s j
+module _ (rec : List ℕ) (at : ℕ) {r : Option Field} {f : Field} (e : r ≡ Some f) (q : r ≡ field_at rec at) (two : head_tag (drop at rec) ≡ block_tag) where
+  abbrev s : ℕ
+  s = f.start
+
+  abbrev j : ℕ
+  j = f.next
+
+  letter : Lettered rec at (number f.tag) s j
   unfolding fits
   letter = lettered rec at block_tag (λ n. refl) e q two
 
@@ -92,9 +100,9 @@ module _ (rec : List ℕ) (at : ℕ) {t s j : ℕ} {r : Found} (e : r ≡ Field 
           told = λ l. p.told l ∙ ap (λ (x : ℕ). take (per_place * n) old ++ place_spans x p.ps) block_field;
         }
 
-    pub block_as : (old new : List ℕ) (r : Places) → IsPlaces (eqb (get_or rec s 0) (byte "N")) rec j n o old new r → IsBlock rec at n o old new r
-    block_as old new (Are n' o' k) p = block_is old new p
-    block_as old new NoPlaces p = block_none p
+    pub block_as : (old new : List ℕ) (r : Option Places) → IsPlaces (eqb (get_or rec s 0) (byte "N")) rec j n o old new r → IsBlock rec at n o old new r
+    block_as old new (Some r) p = block_is old new p
+    block_as old new None p = block_none p
 
 -- ---- the loop over blocks
 
@@ -162,19 +170,24 @@ module _ {rec : List ℕ} {from at left n o t : ℕ} {old row : List ℕ} (v : B
         told = v.told;
       }
 
+  pub blocks_last : (t ≡ block_tag → ⊥) → {r : Option Judged} → r ≡ then_some (leb (length rec) at) (record { places = n; total = o }) → IsBlocks rec from old row r
+  blocks_last h q =
+      by_bool (leb (length rec) at)
+      (λ y. rw (q, y) (blocks_end h (leb-true (length rec) at y)))
+      (λ y. rw (q, y) (blocks_cut h (leb-false (length rec) at y)))
+
   pub blocks_full : t ≡ block_tag → left ≡ 0 → blocks (drop from rec) ≡ none
   blocks_full h z = gone (going_full (is_tag block_tag) next_block with_block v.done left (state n o) (drop at rec) v.is e (eq-eqb t block_tag h) z)
 
-  pub blocks_bad : t ≡ block_tag → (left ≡ 0 → ⊥) → (new : List ℕ) {r : Places} → r ≡ NoPlaces → IsBlock rec at n o row new r → blocks (drop from rec) ≡ none
-  blocks_bad h z new y q =
-      gone (going_bad (is_tag block_tag) next_block with_block v.done left (state n o) (drop at rec) v.is e (eq-eqb t block_tag h) z (subst (IsBlock rec at n o row new) y q))
+  pub blocks_bad : t ≡ block_tag → (left ≡ 0 → ⊥) → (new : List ℕ) → IsBlock rec at n o row new None → blocks (drop from rec) ≡ none
+  blocks_bad h z new q =
+      gone (going_bad (is_tag block_tag) next_block with_block v.done left (state n o) (drop at rec) v.is e (eq-eqb t block_tag h) z q)
 
-  pub blocks_more : t ≡ block_tag → (left ≡ 0 → ⊥) → (new : List ℕ) {r : Places} {n' o' k : ℕ} → r ≡ Are n' o' k → IsBlock rec at n o row new r → BlocksRead rec from old new k (left - 1) n' o'
-  blocks_more h z new {r} {n'} {o'} {k} y q =
-      let d : BlockIs rec at n o row new n' o' k = subst (IsBlock rec at n o row new) y q in
+  pub blocks_more : t ≡ block_tag → (left ≡ 0 → ⊥) → (new : List ℕ) {p : Places} → IsBlock rec at n o row new (Some p) → BlocksRead rec from old new p.next (left - 1) p.number p.orders
+  blocks_more h z new {p} d =
       let bs : List Block = v.done ++ (d.b ∷ []) in
       let one_less : left ≡ suc (left - 1) = omega arith in
-      let next : with_block (state n o) d.b ≡ state n' o' = ap₂ state (sym d.number) (sym d.orders) in
+      let next : with_block (state n o) d.b ≡ state p.number p.orders = ap₂ state (sym d.number) (sym d.orders) in
       record {
         done = bs;
         is = rw next at (going_more (is_tag block_tag) next_block with_block v.done left (state n o) (drop at rec) v.is e (eq-eqb t block_tag h) one_less d.is);

@@ -20,16 +20,12 @@ use Rattle.record_walk.proofs.RunLaws.{drop_behind, size_append}
 use Rattle.marks.specs.Marks.{added_if}
 use Rattle.marks.specs.declared.Marks.{Marks}
 use Rattle.judge_place.specs.Judging.{PlaceIs, IsPlace}
-use Rattle.judge_place.specs.declared.OnePlace.{OnePlace}
-use Rattle.judge_place.specs.declared.OnePlace.TheVariants.{Is, Bad as NoPlace}
 use Rattle.judge_place.proofs.PlaceBytes.{place_is}
 use Rattle.judge_names.specs.Names.{name_bytes, is_name_of, all_marked, Answers, Tells}
-use Rattle.judge_names.specs.declared.Told.{Told}
-use Rattle.judge_names.specs.declared.Told.TheVariants.{Once, Twice}
 use Rattle.judge_names.proofs.StandLaws.{all_marked_lem}
 use Rattle.judge.specs.Blocks.{fresh_place}
 use Rattle.judge.specs.Judged.{Stand, NextIs, IsNext}
-use Rattle.judge.specs.declared.Next.TheVariants.{Is as NextPlace, Bad as NoNext}
+use Rattle.std.proofs.Common.{Option, Some, None}
 use Rattle.laws.specs.Cases.{by_bool, and_false, or_true}
 use Rattle.rules.proofs.Names.{name_sym}
 
@@ -96,18 +92,15 @@ name_there rec at begin (place b nm v) rest e q =
 pub stand_ends : {named : Bool} {rec : List ℕ} {from at : ℕ} {m : Marks} {ps : List Place} → Stand named rec from at m ps → at ≡ from + size (many place_fields ps)
 stand_ends {rec = rec} {from = from} {at = at} st = omega (arith, st.order, st.inside, ap length st.bytes, length-take (at - from) (drop from rec), length-drop from rec)
 
-pub next_none : (named : Bool) (rec : List ℕ) (from at : ℕ) (m : Marks) {r : OnePlace} → r ≡ NoPlace → IsPlace named rec at r → IsNext named rec from at m NoNext
+pub next_none : (named : Bool) (rec : List ℕ) (from at : ℕ) (m : Marks) → IsPlace named rec at None → IsNext named rec from at m None
 unfolding fresh_place
-next_none named rec from at m e j ps st = rw (subst (IsPlace named rec at) e j)
+next_none named rec from at m j ps st = rw j
 
 -- places that stand in a record are fields
 pub places_whole : {named : Bool} {rec : List ℕ} {from at : ℕ} {m : Marks} {ps : List Place} → Stand named rec from at m ps → Whole (bytes_in rec from at) 0
 places_whole {ps = ps} st = record { fs = many place_fields ps; is = st.bytes; inside = omega arith }
 
-module _ (named : Bool) (rec : List ℕ) (at : ℕ) {n begin k : ℕ} {r : OnePlace} (e : r ≡ Is n begin k) (j : IsPlace named rec at r) where
-  pub place_there : PlaceIs named rec at n begin k
-  place_there = subst (IsPlace named rec at) e j
-
+module _ (named : Bool) (rec : List ℕ) (at : ℕ) {n begin k : ℕ} (place_there : PlaceIs named rec at n begin k) where
   pub begin_behind : at + 4 ≤ begin
   begin_behind = omega (arith, place_there.begins, name_behind place_there.p)
 
@@ -161,22 +154,22 @@ module _ (named : Bool) (rec : List ℕ) (from at : ℕ) {n begin k : ℕ} (t : 
         }
 
   module _ {m : Marks} where
-    pub next_unnamed : (u : ℕ) → named ≡ false → IsNext named rec from at m (NextPlace n begin k u)
+    pub next_unnamed : (u : ℕ) → named ≡ false → IsNext named rec from at m (Some (record { place = record { number = n; value = begin; next = k }; key = u }))
     next_unnamed u y ps st = fresh_there ps st u (rw y) (rw y)
 
-    module _ {a : Told} (g : Tells (bytes_in rec from at) (bytes_in rec (at + 4) begin) m a) (y : named ≡ true) where
-      pub next_once : {u : ℕ} → a ≡ Once u → IsNext named rec from at m (NextPlace n begin k u)
+    module _ {a : Option ℕ} (g : Tells (bytes_in rec from at) (bytes_in rec (at + 4) begin) m a) (y : named ≡ true) where
+      pub next_once : {u : ℕ} → a ≡ Some u → IsNext named rec from at m (Some (record { place = record { number = n; value = begin; next = k }; key = u }))
       next_once {u} q ps st =
           let h : all_marked m ps ≡ true = rw y at st.marks in
           let told = subst (Answers ps (place_name d.p)) q (g ps (place_name d.p) st.bytes name_bytes_lem h) in
           fresh_there ps st u (rw (y, told.0)) (rw (y, told.1) (all_marked_lem m ps d.p h))
 
-      pub next_twice : a ≡ Twice → IsNext named rec from at m NoNext
+      pub next_twice : a ≡ None → IsNext named rec from at m None
       unfolding fresh_place
       next_twice q ps st =
           let told = subst (Answers ps (place_name d.p)) q (g ps (place_name d.p) st.bytes name_bytes_lem (rw y at st.marks)) in
           rw (d.is, y, told)
 
-pub name_there_enough : (named : Bool) (rec : List ℕ) (at : ℕ) {n begin k : ℕ} {r : OnePlace} → r ≡ Is n begin k → IsPlace named rec at r → head_tag (drop at rec) ≡ place_tag → Small rec
+pub name_there_enough : (named : Bool) (rec : List ℕ) (at : ℕ) {n begin k : ℕ} → PlaceIs named rec at n begin k → head_tag (drop at rec) ≡ place_tag → Small rec
     → named ≡ true → 3 ≤ length (bytes_in rec (at + 4) begin)
-name_there_enough named rec at e j t sm y = name_enough named rec at at t sm (place_there named rec at e j) y
+name_there_enough named rec at j t sm y = name_enough named rec at at t sm j y

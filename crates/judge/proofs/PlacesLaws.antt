@@ -3,14 +3,14 @@ use mathlib.Core.Path.{◌≡◌, refl, sym, ap, ◌∙◌, subst}
 use mathlib.Core.Bool.{Bool, true, false, ◌||◌, not}
 use mathlib.Core.List.{List, [], ◌∷◌, ◌++◌, map, append_assoc, append-nil}
 use mathlib.Core.Option.{none, some}
-use Prim.Native.Nat.{ℕ, zero, suc, ◌+◌, ◌-◌, ◌*◌, ◌≤◌, ◌<◌}
+use Prim.Native.Nat.{ℕ, zero, suc, max, ◌+◌, ◌-◌, ◌*◌, ◌≤◌, ◌<◌}
 use native.Mathlib.Nat.{mul-one}
 use native.Mathlib.Omega.{arith}
 use borrow.Author.Tests.{eq-eqb, ne_eqb, le-leb, lt-leb, leb-true, leb-false, not-true}
 use lib.Dec.{leb}
 use lib.ListN.{length, take, drop, length-append}
 use lib.Arith.{lt_of_le-ne}
-use Rattle.laws.specs.Cases.{pick, pick_if, by_bool, by_option, none≢some, and_false, or_true}
+use Rattle.laws.specs.Cases.{pick, by_bool, by_option, none≢some, and_false, or_true}
 use Rattle.laws.specs.Lists.{is_nil}
 use Rattle.rules.specs.Refusals.{most_places, most_orders}
 use Rattle.rules.specs.Commands.{Place, place, place_name, place_count, terms, sum, mult}
@@ -26,11 +26,9 @@ use Rattle.marks.specs.Marks.{added_if}
 use Rattle.marks.specs.declared.Marks.{Marks}
 use Rattle.judge_names.specs.Names.{is_name_of}
 use Rattle.judge.specs.Blocks.{counted, next_place, with_place, some_places, may_be_block, places, fresh_place}
-use Rattle.judge.specs.Judged.{per_place, row_length, most_told, told_at, orders_of, Stand, NextIs, NextAs, IsNext, PlacesAre}
+use Rattle.judge.specs.Judged.{per_place, row_length, most_told, told_at, orders_of, Stand, NextIs, IsNext, PlacesAre}
 use Rattle.judge.specs.declared.Next.{Next}
-use Rattle.judge.specs.declared.Next.TheVariants.{Is, Bad as NoNext}
-use Rattle.judge.specs.declared.Orders.{Orders}
-use Rattle.judge.specs.declared.Orders.TheVariants.{Are as OrdersAre, TooMany}
+use Rattle.std.proofs.Common.{Option, Some, None}
 use Rattle.judge.proofs.SpanLaws.{told_long, told_take, spans_more}
 use Rattle.judge.proofs.NextLaws.{head_first, stand_ends, differ_more, differ_not}
 
@@ -40,25 +38,20 @@ unfolding counted
 counted_is (place b nm []) = refl
 counted_is (place b nm (e ∷ es)) = rw (ne_eqb (sum (map terms (e ∷ es))) 0 (λ h. omega (arith, terms_pos e)))
 
-pub times_many : (t n : ℕ) → 1 < n → t * n ≡ t * counted n
+pub counted_most : (n : ℕ) → max n 1 ≡ counted n
 unfolding counted
-times_many t n h = rw (ne_eqb n 0 (λ e. omega arith))
-
-pub times_one : (t n : ℕ) → n ≤ 1 → t ≡ t * counted n
-unfolding counted
-times_one t zero h = sym (mul-one t)
-times_one t (suc zero) h = sym (mul-one t)
-times_one t (suc (suc n)) h = absurd (omega arith)
+counted_most zero = refl
+counted_most (suc n) = rw (ne_eqb (suc n) 0 (λ e. omega (arith, e))) (omega arith)
 
 -- what an answer on orders says
-abbrev IsOrders : ℕ → Orders → Type 0
-IsOrders n (OrdersAre m) = (m ≡ n) × (m ≤ most_orders)
-IsOrders n TooMany = most_orders < n
+abbrev IsOrders : ℕ → Option ℕ → Type 0
+IsOrders n (Some m) = (m ≡ n) × (m ≤ most_orders)
+IsOrders n None = most_orders < n
 
 orders_there : (n : ℕ) → IsOrders n (orders_of n)
-orders_there n = pick_if (IsOrders n) (leb n most_orders) (λ y. (refl, leb-true n most_orders y)) (λ y. leb-false n most_orders y)
+orders_there n = by_bool (leb n most_orders) (λ y. rw y (refl, leb-true n most_orders y)) (λ y. rw y (leb-false n most_orders y))
 
-orders_is : (n : ℕ) (r : Orders) → r ≡ orders_of n → IsOrders n r
+orders_is : (n : ℕ) (r : Option ℕ) → r ≡ orders_of n → IsOrders n r
 orders_is n r e = subst (IsOrders n) (sym e) (orders_there n)
 
 mult_snoc : (ps : List Place) (p : Place) → mult (map place_count (ps ++ (p ∷ []))) ≡ mult (map place_count ps) * place_count p
@@ -190,16 +183,16 @@ module _ {named : Bool} {rec : List ℕ} {from n o : ℕ} {old new : List ℕ} {
       behind none = refl
       behind (some x) = rw (y, differ_not v.done p x.0 w, and_false (not (is_nil ((v.done ++ (p ∷ [])) ++ x.0))))
 
-  pub places_bad : {r : Next} → IsNext named rec from at m r → r ≡ NoNext → t ≡ place_tag → (n' ≡ most_places → ⊥) → places named (most_places - n) o (drop from rec) ≡ none
+  pub places_bad : IsNext named rec from at m None → t ≡ place_tag → (n' ≡ most_places → ⊥) → places named (most_places - n) o (drop from rec) ≡ none
   unfolding next_place fresh_place
-  places_bad g y h z =
-      let q : fresh_place named v.done (drop at rec) ≡ none = subst (NextAs named rec from at m v.done) y (g v.done v.stand) in
+  places_bad g h z =
+      let q : fresh_place named v.done (drop at rec) ≡ none = g v.done v.stand in
       by_option (one_place named (drop at rec))
       (λ e. bad_here h z (rw e))
       (λ x e. fresh_none x named (is_name_of v.done (place_name x.0)) (rw e at q) (λ y w. twice_here h z x.0 x.1 e y w))
 
-  pub next_there : {r : Next} {c begin k u : ℕ} → IsNext named rec from at m r → r ≡ Is c begin k u → NextIs named rec from at m v.done c begin k u
-  next_there g q = subst (NextAs named rec from at m v.done) q (g v.done v.stand)
+  pub next_there : {p : Next} → IsNext named rec from at m (Some p) → NextIs named rec from at m v.done p.place.number p.place.value p.place.next p.key
+  next_there g = g v.done v.stand
 
   module _ {c begin k u : ℕ} (d : NextIs named rec from at m v.done c begin k u) where
     abbrev p : Place
@@ -213,21 +206,21 @@ module _ {named : Bool} {rec : List ℕ} {from n o : ℕ} {old new : List ℕ} {
     spans : place_spans from (v.done ++ (p ∷ [])) ≡ place_spans from v.done ++ (c ∷ begin ∷ k ∷ [])
     spans = spans_more from v.done p (stand_ends v.stand) ∙ rw (← d.arguments, ← d.begins, ← d.ends)
 
-    module _ (h : t ≡ place_tag) (z : n' ≡ most_places → ⊥) {s : Orders} (g : s ≡ orders_of (o' * counted c)) where
+    module _ (h : t ≡ place_tag) (z : n' ≡ most_places → ⊥) where
       product : o' * counted c ≡ o' * place_count p
       product = ap (λ (x : ℕ). o' * x) (ap counted d.arguments ∙ counted_is p)
 
-      pub places_many : s ≡ TooMany → places named (most_places - n) o (drop from rec) ≡ none
+      pub places_many : None ≡ orders_of (o' * counted c) → places named (most_places - n) o (drop from rec) ≡ none
       unfolding next_place
       places_many y =
-          let b : most_orders < o' * counted c = orders_is (o' * counted c) TooMany (sym y ∙ g) in
+          let b : most_orders < o' * counted c = orders_is (o' * counted c) None y in
           bad_here h z (rw (fresh.0, ← product, lt-leb (o' * counted c) most_orders b))
 
-      pub places_more : {o'' : ℕ} {m' : Marks} {row : List ℕ} → s ≡ OrdersAre o'' → m' ≡ added_if named m u → row ≡ told_at new n' c begin k
+      pub places_more : {o'' : ℕ} {m' : Marks} {row : List ℕ} → Some o'' ≡ orders_of (o' * counted c) → m' ≡ added_if named m u → row ≡ told_at new n' c begin k
           → PlacesRead named rec from n o old row k (n' + 1) o'' m'
       unfolding next_place
       places_more {o''} {m'} {row} y l written =
-          let b = orders_is (o' * counted c) (OrdersAre o'') (sym y ∙ g) in
+          let b = orders_is (o' * counted c) (Some o'') y in
           let total : o' * place_count p ≡ o'' = sym (b.0 ∙ product) in
           let next_is_lem : next_place named o' (drop at rec) ≡ some (p, drop k rec) = rw (fresh.0, total, le-leb o'' most_orders b.1) in
           let w : n' < most_places = room_left z in

@@ -36,9 +36,9 @@ use Rattle.judge.proofs.PlacesBytes.{PlacesWrote, places_is, places_back}
 use Rattle.record_walk.specs.Spans.{size, block_spans, spans_of}
 use Rattle.judge_place.specs.Judging.{PiecesAre, IsPieces}
 use Rattle.judge_place.specs.declared.Pieces.{Pieces}
-use Rattle.judge_place.specs.declared.Pieces.TheVariants.{Are, Bad as NoPieces}
 use Rattle.judge.specs.declared.Judged.{Judged}
-use Rattle.judge.specs.declared.Judged.TheVariants.{Good, Bad}
+use Rattle.std.proofs.Common.{Some, None}
+use Rattle.std.specs.Prelude.{Option as Maybe}
 
 -- ---- one block
 
@@ -256,17 +256,14 @@ nothing_read r e = body_refused r (λ c h. none≢some {a = c} (sym e ∙ body_b
 
 -- ---- the judge's answers are the rules'
 
-abbrev IsCode : List ℕ → Pieces → Type 0
+abbrev IsCode : List ℕ → Maybe Pieces → Type 0
 IsCode rec r = IsPieces code_tag false (suc more_of_code) rec 0 r
 
-pub code_gone : (rec : List ℕ) {r : Pieces} → r ≡ NoPieces → IsCode rec r → body_of rec ≡ bad not_well_formed 0
+pub code_gone : (rec : List ℕ) → IsCode rec None → body_of rec ≡ bad not_well_formed 0
 unfolding body_in
-code_gone rec e j = nothing_read rec (rw (subst (IsCode rec) e j))
+code_gone rec j = nothing_read rec (rw j)
 
-module _ (rec : List ℕ) {n k : ℕ} {r : Pieces} (e : r ≡ Are n k) (j : IsCode rec r) where
-  g : PiecesAre code_tag false (suc more_of_code) rec 0 n k
-  g = subst (IsCode rec) e j
-
+module _ (rec : List ℕ) {n k : ℕ} (g : PiecesAre code_tag false (suc more_of_code) rec 0 n k) where
   pub code_inside : k ≤ length rec
   code_inside = g.inside
 
@@ -291,9 +288,9 @@ module _ (rec : List ℕ) {n k : ℕ} {r : Pieces} (e : r ≡ Are n k) (j : IsCo
       let w = code_is rec g.ws (drop k rec) s g.is in
       omega (arith, ap length w.1, length-append (bytes_of (map (λ x. field code_tag x) g.ws)) (drop k rec), length-drop k rec, g.inside)
 
-  pub judged_as : Small rec → (n ≡ 0 → ⊥) → (old new : List ℕ) (r : Judged) → IsBlocks rec k old new r → Judges (body_of rec) old new r
+  pub judged_as : Small rec → (n ≡ 0 → ⊥) → (old new : List ℕ) (r : Maybe Judged) → IsBlocks rec k old new r → Judges (body_of rec) old new r
   unfolding body_in spans_of
-  judged_as s z old new (Good p t) b =
+  judged_as s z old new (Some j) b =
       record {
         tree = command g.ws b.bs;
         is = body_read rec (command g.ws b.bs) s (rw (g.is, has_code z, b.is));
@@ -303,4 +300,4 @@ module _ (rec : List ℕ) {n k : ℕ} {r : Pieces} (e : r ≡ Are n k) (j : IsCo
         long = b.long;
         told = λ l. b.told l ∙ ap (λ (x : ℕ). block_spans x b.bs) (code_ends s);
       }
-  judged_as s z old new Bad b = nothing_read rec (rw (g.is, has_code z, b))
+  judged_as s z old new None b = nothing_read rec (rw (g.is, has_code z, b))

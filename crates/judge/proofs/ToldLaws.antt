@@ -13,7 +13,7 @@ use Rattle.rules.specs.WellFormed.{record_of, body_of}
 use Rattle.rules.proofs.EncodeDecode.{record_room, record_part}
 use Rattle.judge.specs.Judged.{per_place, row_length, IsGood, Judges, Told}
 use Rattle.judge.specs.declared.Judged.{Judged}
-use Rattle.judge.specs.declared.Judged.TheVariants.{Good}
+use Rattle.std.proofs.Common.{Option, Some}
 
 -- ---- the row: three numbers for each place
 
@@ -26,20 +26,20 @@ three_front row j h =
 
 -- ---- the answer
 
-module _ (rec row : List ℕ) {r : Judged} {n t : ℕ} (e : r ≡ Good n t) (j : Judges (record_of rec) (replicate row_length 0) row r) where
+module _ (rec row : List ℕ) {r : Option Judged} {x : Judged} (e : r ≡ Some x) (j : Judges (record_of rec) (replicate row_length 0) row r) where
   -- what it says
-  pub judged : IsGood (record_of rec) (replicate row_length 0) row n t
+  pub judged : IsGood (record_of rec) (replicate row_length 0) row x.places x.total
   judged = subst (Judges (record_of rec) (replicate row_length 0) row) e j
 
   -- all places' numbers stand in the row
-  pub judged_row : per_place * n ≤ length row
+  pub judged_row : per_place * x.places ≤ length row
   judged_row = omega (arith, judged)
 
-  pub judged_count : per_place * n < 18446744073709551616
+  pub judged_count : per_place * x.places < 18446744073709551616
   judged_count = omega (arith, judged)
 
-  pub judged_cut : per_place * n ≡ length (take (per_place * n) row)
-  judged_cut = sym (length-take-le (per_place * n) row judged_row)
+  pub judged_cut : per_place * x.places ≡ length (take (per_place * x.places) row)
+  judged_cut = sym (length-take-le (per_place * x.places) row judged_row)
 
   -- what stands behind the head
   pub head_room : head_size ≤ length rec
@@ -52,5 +52,5 @@ module _ (rec row : List ℕ) {r : Judged} {n t : ℕ} (e : r ≡ Good n t) (j :
   body_judged = record_part rec judged.tree judged.is
 
   -- and the numbers are what it has
-  pub judged_told : Told body (take (per_place * n) row)
+  pub judged_told : Told body (take (per_place * x.places) row)
   judged_told = record { tree = judged.tree; is = body_judged; told = judged.told (omega arith) }

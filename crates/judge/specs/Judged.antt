@@ -1,7 +1,8 @@
 -- What the judge's answers say: of places and blocks what was read from the front of the bytes, its numbers, and where it stands; of the whole
 -- record, and of what stands behind its head, the command that is held there, or refusal 18.
-use Rattle.std.specs.Prelude.{◌≡◌, Bool, true, ◌||◌, not, List, [], ◌∷◌, ◌++◌, map, ℕ, ◌+◌, ◌-◌, ◌*◌, ◌≤◌, leb, ltb, length, take, drop, set}
+use Rattle.std.specs.Prelude.{◌≡◌, Bool, true, ◌||◌, not, List, [], ◌∷◌, ◌++◌, map, ℕ, ◌+◌, ◌-◌, ◌*◌, ◌≤◌, leb, ltb, length, take, drop, set, Option, Some, None}
 use Rattle.std.proofs.Math.Option.{none, some}
+use Rattle.std.specs.Bool.{then_some}
 use Rattle.laws.specs.Cases.{pick}
 use Rattle.rules.specs.Refusals.{Res, ok, bad, not_well_formed, most_places, most_arguments, most_orders}
 use Rattle.rules.specs.Commands.{Place, place_count, mult, Block, places_of, all_places, Command, command}
@@ -14,14 +15,9 @@ use Rattle.record_walk.specs.Runs.{bytes_in}
 use Rattle.record_walk.specs.Spans.{size, head_fields, arguments_of, place_spans, block_head, block_spans, spans_of}
 use Rattle.judge_names.specs.Names.{all_marked}
 use Rattle.judge.specs.Blocks.{places, fresh_place, next_block, blocks}
-use Rattle.judge.specs.declared.Orders.{Orders}
-use Rattle.judge.specs.declared.Orders.TheVariants.{Are as OrdersAre, TooMany}
 use Rattle.judge.specs.declared.Next.{Next}
-use Rattle.judge.specs.declared.Next.TheVariants.{Is, Bad as NoNext}
 use Rattle.judge.specs.declared.Places.{Places}
-use Rattle.judge.specs.declared.Places.TheVariants.{Are, Bad as NoPlaces}
 use Rattle.judge.specs.declared.Judged.{Judged}
-use Rattle.judge.specs.declared.Judged.TheVariants.{Good, Bad}
 
 -- ---- the row of numbers
 
@@ -46,8 +42,8 @@ told_at row p a b c =
 -- ---- the orders
 
 -- so many, or more than there may be
-abbrev pub orders_of : ℕ → Orders
-orders_of n = pick (leb n most_orders) (OrdersAre n) TooMany
+abbrev pub orders_of : ℕ → Option ℕ
+orders_of n = then_some (leb n most_orders) n
 
 -- ---- one place
 
@@ -68,11 +64,11 @@ pub record NextIs (named : Bool) (rec : List ℕ) (from at : ℕ) (m : Marks) (p
   pub ends : k ≡ at + size (place_fields p)
   pub more : Stand named rec from k (added_if named m u) (ps ++ (p ∷ []))
 
-abbrev pub NextAs : Bool → List ℕ → ℕ → ℕ → Marks → List Place → Next → Type 0
-NextAs named rec from at m ps (Is n begin k u) = NextIs named rec from at m ps n begin k u
-NextAs named rec from at m ps NoNext = fresh_place named ps (drop at rec) ≡ none
+abbrev pub NextAs : Bool → List ℕ → ℕ → ℕ → Marks → List Place → Option Next → Type 0
+NextAs named rec from at m ps (Some p) = NextIs named rec from at m ps p.place.number p.place.value p.place.next p.key
+NextAs named rec from at m ps None = fresh_place named ps (drop at rec) ≡ none
 
-abbrev pub IsNext : Bool → List ℕ → ℕ → ℕ → Marks → Next → Type 0
+abbrev pub IsNext : Bool → List ℕ → ℕ → ℕ → Marks → Option Next → Type 0
 IsNext named rec from at m r = (ps : List Place) → Stand named rec from at m ps → NextAs named rec from at m ps r
 
 -- ---- places
@@ -90,9 +86,9 @@ pub record PlacesAre (named : Bool) (rec : List ℕ) (at n o : ℕ) (old new : L
   pub long : length new ≡ length old
   pub told : row_length ≤ length old → take (per_place * n') new ≡ take (per_place * n) old ++ place_spans at ps
 
-abbrev pub IsPlaces : Bool → List ℕ → ℕ → ℕ → ℕ → List ℕ → List ℕ → Places → Type 0
-IsPlaces named rec at n o old new (Are n' o' k) = PlacesAre named rec at n o old new n' o' k
-IsPlaces named rec at n o old new NoPlaces = places named (most_places - n) o (drop at rec) ≡ none
+abbrev pub IsPlaces : Bool → List ℕ → ℕ → ℕ → ℕ → List ℕ → List ℕ → Option Places → Type 0
+IsPlaces named rec at n o old new (Some p) = PlacesAre named rec at n o old new p.number p.orders p.next
+IsPlaces named rec at n o old new None = places named (most_places - n) o (drop at rec) ≡ none
 
 -- ---- blocks
 
@@ -108,9 +104,9 @@ pub record BlockIs (rec : List ℕ) (at n o : ℕ) (old new : List ℕ) (n' o' k
   pub long : length new ≡ length old
   pub told : row_length ≤ length old → take (per_place * n') new ≡ take (per_place * n) old ++ place_spans (at + block_head) (places_of b)
 
-abbrev pub IsBlock : List ℕ → ℕ → ℕ → ℕ → List ℕ → List ℕ → Places → Type 0
-IsBlock rec at n o old new (Are n' o' k) = BlockIs rec at n o old new n' o' k
-IsBlock rec at n o old new NoPlaces = next_block (record { places = n; orders = o }) (drop at rec) ≡ none
+abbrev pub IsBlock : List ℕ → ℕ → ℕ → ℕ → List ℕ → List ℕ → Option Places → Type 0
+IsBlock rec at n o old new (Some b) = BlockIs rec at n o old new b.number b.orders b.next
+IsBlock rec at n o old new None = next_block (record { places = n; orders = o }) (drop at rec) ≡ none
 
 pub record BlocksAre (rec : List ℕ) (at : ℕ) (old new : List ℕ) (n t : ℕ) : Type 0 where
   pub bs : List Block
@@ -121,9 +117,9 @@ pub record BlocksAre (rec : List ℕ) (at : ℕ) (old new : List ℕ) (n t : ℕ
   pub long : length new ≡ length old
   pub told : row_length ≤ length old → take (per_place * n) new ≡ block_spans at bs
 
-abbrev pub IsBlocks : List ℕ → ℕ → List ℕ → List ℕ → Judged → Type 0
-IsBlocks rec at old new (Good n t) = BlocksAre rec at old new n t
-IsBlocks rec at old new Bad = blocks (drop at rec) ≡ none
+abbrev pub IsBlocks : List ℕ → ℕ → List ℕ → List ℕ → Option Judged → Type 0
+IsBlocks rec at old new (Some j) = BlocksAre rec at old new j.places j.total
+IsBlocks rec at old new None = blocks (drop at rec) ≡ none
 
 -- ---- a record, or what stands behind its head
 
@@ -141,9 +137,9 @@ pub record IsGood (found : Res Command) (old new : List ℕ) (n t : ℕ) : Type 
   pub told : row_length ≤ length old → take (per_place * n) new ≡ spans_of tree
 
 -- "18 record not well formed (place 0)"
-abbrev pub Judges : Res Command → List ℕ → List ℕ → Judged → Type 0
-Judges found old new (Good n t) = IsGood found old new n t
-Judges found old new Bad = found ≡ bad not_well_formed 0
+abbrev pub Judges : Res Command → List ℕ → List ℕ → Option Judged → Type 0
+Judges found old new (Some j) = IsGood found old new j.places j.total
+Judges found old new None = found ≡ bad not_well_formed 0
 
 -- ---- the row that is left
 

@@ -1,6 +1,6 @@
 -- Whether a name is that of one of some places is told place by place: the first one's bytes are compared, and behind its value stand the others.
 use mathlib.Core.Path.{◌≡◌, refl, ap, ◌∙◌, sym}
-use mathlib.Core.Bool.{Bool, true, false}
+use mathlib.Core.Bool.{Bool, true, false, not}
 use mathlib.Core.List.{List, [], ◌∷◌, ◌++◌, map, map-append}
 use Prim.Native.Nat.{ℕ, ◌+◌, ◌-◌, ◌≤◌, ◌<◌}
 use native.Mathlib.Omega.{arith}
@@ -19,7 +19,9 @@ use Rattle.marks.specs.Marks.{marked, added}
 use Rattle.marks.specs.declared.Marks.{Marks}
 use Rattle.marks.proofs.MarkLaws.{added_marked}
 use Rattle.marks.proofs.MetLaws.{not_met, still_marked}
-use Rattle.judge_names.specs.declared.Told.TheVariants.{Once, Twice}
+use Rattle.std.specs.Bool.{then_some}
+use Rattle.std.specs.Prelude.{Option, Some, None}
+use Rattle.laws.specs.Cases.{by_bool}
 
 -- what begins with a place's field, or is nothing
 places_tag : (ps : List Place) → tag_of (bytes_of (many place_fields ps)) < name_tag
@@ -89,16 +91,19 @@ all_marked_lem m ps p h =
 
 -- ---- the name is looked for only where its key is marked
 
-pub meets_not : (rec name : List ℕ) (m : Marks) {key : ℕ} {q : Bool} → key ≡ bytes_key name → q ≡ marked m key → q ≡ false → Meets rec name m false
+pub meets_not : (rec name : List ℕ) (m : Marks) {key : ℕ} {q : Bool} → key ≡ bytes_key name → q ≡ marked m key → q ≡ false → Meets rec name m q
 unfolding name_key
-meets_not rec name m e c y ps nm b n h = sym (not_met name_key m nm (map place_name ps) h (ap (λ (x : List ℕ). marked m (bytes_key x)) (sym n) ∙ ap (marked m) (sym e) ∙ sym c ∙ y))
+meets_not rec name m e c y ps nm b n h = y ∙ sym (not_met name_key m nm (map place_name ps) h (ap (λ (x : List ℕ). marked m (bytes_key x)) (sym n) ∙ ap (marked m) (sym e) ∙ sym c ∙ y))
 
 -- ---- what is told
 
 module _ {rec name : List ℕ} (m : Marks) {key : ℕ} {r : Bool} (e : key ≡ bytes_key name) (g : Meets rec name m r) where
-  pub told_twice : r ≡ true → Tells rec name m Twice
+  told_twice : r ≡ true → Tells rec name m None
   told_twice y ps nm b n h = sym (g ps nm b n h) ∙ y
 
-  pub told_once : r ≡ false → Tells rec name m (Once key)
+  told_once : r ≡ false → Tells rec name m (Some key)
   unfolding name_key
   told_once y ps nm b n h = (sym (g ps nm b n h) ∙ y, e ∙ ap bytes_key n)
+
+  pub told : {a : Option ℕ} → a ≡ then_some (not r) key → Tells rec name m a
+  told q = by_bool r (λ y. rw (q, y) (told_twice y)) (λ y. rw (q, y) (told_once y))

@@ -1,5 +1,5 @@
 -- The names of places that stand one behind the other in a record: where a place's name is, whether a name is one of theirs, and marks of their keys.
-use Rattle.std.specs.Prelude.{◌≡◌, Bool, true, false, List, ◌++◌, map, ℕ, ◌+◌, ◌≤◌, ◌<◌, drop}
+use Rattle.std.specs.Prelude.{◌≡◌, Bool, true, false, List, ◌++◌, map, ℕ, ◌+◌, ◌≤◌, ◌<◌, drop, Option, Some, None}
 use Rattle.laws.specs.Lists.{any}
 use Rattle.rules.specs.Units.{Base}
 use Rattle.rules.specs.Commands.{Name, Element, Place, place, place_name, same_name}
@@ -9,8 +9,6 @@ use Rattle.record_walk.specs.Runs.{Whole, bytes_in, field_size}
 use Rattle.marks.specs.Marks.{key_of, keys_marked}
 use Rattle.marks.specs.declared.Marks.{Marks}
 use Rattle.judge_names.specs.declared.Spot.{Spot}
-use Rattle.judge_names.specs.declared.Told.{Told}
-use Rattle.judge_names.specs.declared.Told.TheVariants.{Once, Twice}
 
 -- a name's bytes: the fields of its pieces
 abbrev pub name_bytes : Name → List ℕ
@@ -54,10 +52,10 @@ Meets rec name m r =
     (ps : List Place) (nm : Name) → rec ≡ bytes_of (many place_fields ps) → name ≡ name_bytes nm → all_marked m ps ≡ true → r ≡ is_name_of ps nm
 
 -- is the name that of one of the places? If not, this is its key
-abbrev pub Answers : List Place → Name → Told → Type 0
-Answers ps nm (Once k) = (is_name_of ps nm ≡ false) × (k ≡ name_key nm)
-Answers ps nm Twice = is_name_of ps nm ≡ true
+abbrev pub Answers : List Place → Name → Option ℕ → Type 0
+Answers ps nm (Some k) = (is_name_of ps nm ≡ false) × (k ≡ name_key nm)
+Answers ps nm None = is_name_of ps nm ≡ true
 
-abbrev pub Tells : List ℕ → List ℕ → Marks → Told → Type 0
+abbrev pub Tells : List ℕ → List ℕ → Marks → Option ℕ → Type 0
 Tells rec name m r =
     (ps : List Place) (nm : Name) → rec ≡ bytes_of (many place_fields ps) → name ≡ name_bytes nm → all_marked m ps ≡ true → Answers ps nm r

@@ -6,21 +6,17 @@ ghost use Rattle.rules.specs.Records.{name_tag};
 ghost use Rattle.record_walk.specs.Runs.{Whole, RunsTo};
 ghost use Rattle.judge_names.specs.Names.{bytes_key, NameAt, StandsIn, Meets, Tells};
 
+use marks::Marks;
+use record_walk::Tag;
+
 // The key that no word stands before.
 const NO_KEY: u32 = 0;
 
 // Where a place's name begins and ends.
-#[derive(Clone, Copy)]
+#[derive(Clone, Copy, Debug, PartialEq, Eq)]
 struct Spot {
     start: usize,
     end: usize,
-}
-
-// A name stands the first time in its block, and this is its key; or it stands there already.
-#[derive(Clone, Copy)]
-pub enum Told {
-    Once { key: u32 },
-    Twice,
 }
 
 // Where the name ends that begins there: behind its last piece.
@@ -28,7 +24,7 @@ fn name_end(places: &[u8], start: usize) -> usize
     requires { Whole places.now start }
     ensures { RunsTo name_tag name_tag places.now start result }
 {
-    record_walk::run_end(places, start, record_walk::NAME, record_walk::NAME)
+    record_walk::run_end(places, start, Tag::Name, Tag::Name)
 }
 
 // Where the name of the place that stands there is: behind the place's field, up to its value.
@@ -38,10 +34,7 @@ fn name_at(places: &[u8], at: usize) -> Spot
 {
     let start = record_walk::after(places, at);
     let end = name_end(places, start);
-    Spot {
-        start: start,
-        end: end,
-    }
+    Spot { start, end }
 }
 
 // Whether one of the places has this name: each of them is walked over.
@@ -52,35 +45,27 @@ fn stands(places: &[u8], name: &[u8]) -> bool
     let mut at = 0;
     while at < places.len() {
         let spot = name_at(places, at);
-        let start = spot.start;
-        let end = spot.end;
-        if marks::same(name, &places[start..end]) {
+        if name == &places[spot.start..spot.end] {
             return true;
         }
-        at = record_walk::run_end(places, end, record_walk::SINGLE, record_walk::STRING);
+        at = record_walk::run_end(places, spot.end, Tag::Single, Tag::String);
     }
     false
 }
 
 // Whether one of the places has the name of this key: where the key isn't marked, none of them is walked over.
-fn meets(places: &[u8], name: &[u8], known: marks::Marks, key: u32) -> bool
+fn meets(places: &[u8], name: &[u8], known: Marks, key: u32) -> bool
     requires { Whole places.now 0 × (key ≡ bytes_key name.now) }
     ensures { Meets places.now name.now known result }
 {
-    if marks::has(known, key) {
-        return stands(places, name);
-    }
-    false
+    known.has(key) && stands(places, name)
 }
 
-// Whether the name of these bytes, the fields of its pieces, is one of those of the places, which are marked.
-pub fn tell(places: &[u8], name: &[u8], known: marks::Marks) -> Told
+// The key of the name of these bytes, the fields of its pieces, if it is none of those of the places, which are marked.
+pub fn tell(places: &[u8], name: &[u8], known: Marks) -> Option<u32>
     requires { Whole places.now 0 × (3 ≤ length name.now) }
     ensures { Tells places.now name.now known result }
 {
     let key = marks::key(NO_KEY, &name[record_walk::HEADER..]);
-    if meets(places, name, known, key) {
-        return Told::Twice;
-    }
-    Told::Once { key: key }
+    (!meets(places, name, known, key)).then_some(key)
 }

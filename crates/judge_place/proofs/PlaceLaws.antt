@@ -15,8 +15,10 @@ use Rattle.rules.specs.Units.{Base, base_of, base_at}
 use Rattle.rules.specs.Commands.{Name, Element, place, terms, sum}
 use Rattle.rules.specs.Records.{place_tag, name_tag, field, bytes_of, many, element_fields, one_byte}
 use Rattle.rules.proofs.Counts.{terms_pos}
-use Rattle.record_walk.specs.declared.Found.{Found}
-use Rattle.record_walk.specs.declared.Found.TheVariants.{Field, Nothing}
+use Rattle.std.specs.Prelude.{Option as Maybe, Some, None}
+use Rattle.std.specs.Bool.{then_some}
+use Rattle.record_walk.specs.Tags.{number}
+use Rattle.record_walk.specs.declared.Field.{Field}
 use Rattle.record_walk.specs.Fields.{fits, field_at}
 use Rattle.record_walk.specs.Fronts.{head_tag}
 use Rattle.record_walk.specs.Runs.{bytes_in}
@@ -25,15 +27,11 @@ use Rattle.record_walk.proofs.FrontLaws.{Small, small_drop}
 use Rattle.record_walk.proofs.RunLaws.{size_append}
 use Rattle.record_walk.proofs.WalkLaws.{Lettered, lettered, nothing_there, tag_inside}
 use Rattle.judge_value.specs.Judging.{ValueIs, IsValue}
-use Rattle.judge_value.specs.declared.Arguments.{Arguments}
-use Rattle.judge_value.specs.declared.Arguments.TheVariants.{Are as Number, Bad as NoValue}
 use Rattle.judge_value.proofs.ValueBytes.{value_is}
 use Rattle.judge_place.specs.Places.{is_base, behind_name, kind_agrees, agrees, parts, one_place}
 use Rattle.judge_place.specs.Judging.{PiecesAre, IsPieces, NameIs, IsName, PartsAre, IsParts, PlaceIs, IsPlace}
 use Rattle.judge_place.specs.declared.Pieces.{Pieces}
-use Rattle.judge_place.specs.declared.Pieces.TheVariants.{Are, Bad}
 use Rattle.judge_place.specs.declared.OnePlace.{OnePlace}
-use Rattle.judge_place.specs.declared.OnePlace.TheVariants.{Is, Bad as NoPlace}
 use Rattle.judge_place.proofs.PlaceBytes.{behind_is}
 
 -- ---- numbers of pieces and arguments
@@ -69,31 +67,25 @@ no_bytes (w ∷ ws) =
 ends_at : (rec : List ℕ) (at k : ℕ) (e : List ℕ) → drop at rec ≡ e ++ drop k rec → at ≤ length rec → k ≤ length rec → k ≡ at + length e
 ends_at rec at k e h i j = omega (arith, ap length h, length-append e (drop k rec), length-drop at rec, length-drop k rec)
 
-pub value_there : (b : Base) (rec : List ℕ) (at : ℕ) {r : Arguments} {n k : ℕ} → r ≡ Number n k → IsValue b rec at r → ValueIs b rec at n k
-value_there b rec at e i = subst (IsValue b rec at) e i
-
 module _ (named : Bool) (rec : List ℕ) (at : ℕ) where
   name_of : {n k : ℕ} → PiecesAre name_tag true 4 rec at n k → NameIs true rec at n k
   name_of g = record { nm = g.ws; is = g.is; inside = g.inside; count = g.count }
 
-  pub name_as : (r : Pieces) → named ≡ true → IsPieces name_tag true 4 rec at r → IsName named rec at r
-  name_as (Are n k) y g = subst (λ (x : Bool). NameIs x rec at n k) (sym y) (name_of g)
-  name_as Bad y g = rw y g
+  pub name_as : (r : Maybe Pieces) → named ≡ true → IsPieces name_tag true 4 rec at r → IsName named rec at r
+  name_as (Some p) y g = subst (λ (x : Bool). NameIs x rec at p.count p.next) (sym y) (name_of g)
+  name_as None y g = rw y g
 
   pub name_none : named ≡ false → at ≤ length rec → NameIs named rec at 0 at
   name_none y h = record { nm = []; is = rw y; inside = h; count = refl }
 
-  pub names_gone : (b : Base) {r : Pieces} → r ≡ Bad → IsName named rec at r → parts named b (drop at rec) ≡ none
+  pub names_gone : (b : Base) → IsName named rec at None → parts named b (drop at rec) ≡ none
   unfolding parts
-  names_gone b e i = rw (subst (IsName named rec at) e i)
-
-  pub name_there : {r : Pieces} {n k : ℕ} → r ≡ Are n k → IsName named rec at r → NameIs named rec at n k
-  name_there e i = subst (IsName named rec at) e i
+  names_gone b i = rw i
 
   module _ {n j : ℕ} (g : NameIs named rec at n j) where
-    pub value_gone : (b : Base) {r : Arguments} → r ≡ NoValue → IsValue b rec j r → parts named b (drop at rec) ≡ none
+    pub value_gone : (b : Base) → IsValue b rec j None → parts named b (drop at rec) ≡ none
     unfolding parts
-    value_gone b e i = rw (g.is, subst (IsValue b rec j) e i)
+    value_gone b i = rw (g.is, i)
 
     module _ (s : Small rec) (i : at ≤ length rec) where
       -- the value begins behind the name's bytes
@@ -113,11 +105,11 @@ module _ (named : Bool) (rec : List ℕ) (at : ℕ) where
         agreed : agrees named (place (base_at base) g.nm h.v) ≡ t
         agreed = sym (agree_is named (base_at base) (drop at rec) g.nm (drop j rec) h.v g.is) ∙ rw (← h.arguments) (sym (e ∙ by_bytes))
 
-        pub parts_no : t ≡ false → parts named (base_at base) (drop at rec) ≡ none
+        parts_no : t ≡ false → parts named (base_at base) (drop at rec) ≡ none
         unfolding parts
         parts_no y = rw (g.is, h.is, agreed, y)
 
-        pub parts_yes : t ≡ true → PartsAre named base rec at m j k
+        parts_yes : t ≡ true → PartsAre named base rec at m j k
         unfolding parts
         parts_yes y =
             record {
@@ -130,6 +122,9 @@ module _ (named : Bool) (rec : List ℕ) (at : ℕ) where
               begins = begins_at_lem;
               ends = ends_at rec j k (bytes_of (many element_fields h.v)) (value_is (base_at base) (drop j rec) h.v (drop k rec) (small_drop j rec s) h.is).1 g.inside h.inside;
             }
+
+        pub parts_told : {r : Maybe OnePlace} → r ≡ then_some t (record { number = m; value = j; next = k }) → IsParts named base rec at r
+        parts_told q = by_bool t (λ y. rw (q, y) (parts_yes y)) (λ y. rw (q, y) (parts_no y))
 
 -- ---- the place's field
 
@@ -157,14 +152,20 @@ base_no c h =
 pub place_inside : (rec : List ℕ) (at : ℕ) → head_tag (drop at rec) ≡ place_tag → at ≤ length rec
 place_inside rec at h = omega (arith, tag_inside rec at (omega arith))
 
-pub place_gone : (named : Bool) (rec : List ℕ) (at : ℕ) {r : Found} → r ≡ Nothing → r ≡ field_at rec at → one_place named (drop at rec) ≡ none
+pub place_gone : (named : Bool) (rec : List ℕ) (at : ℕ) {r : Maybe Field} → r ≡ None → r ≡ field_at rec at → one_place named (drop at rec) ≡ none
 unfolding one_place
 place_gone named rec at e q = rw (nothing_there rec at e q)
 
-module _ (rec : List ℕ) (at : ℕ) {t s j : ℕ} {r : Found} (e : r ≡ Field t s j) (q : r ≡ field_at rec at) (three : head_tag (drop at rec) ≡ place_tag) where
-  own_letter : Lettered rec at t s j
+module _ (rec : List ℕ) (at : ℕ) {r : Maybe Field} {f : Field} (e : r ≡ Some f) (q : r ≡ field_at rec at) (three : head_tag (drop at rec) ≡ place_tag) where
+  own_letter : Lettered rec at (number f.tag) f.start f.next
   unfolding fits
   own_letter = lettered rec at place_tag (λ n. refl) e q three
+
+  abbrev s : ℕ
+  s = f.start
+
+  abbrev j : ℕ
+  j = f.next
 
   pub behind_inside : j ≤ length rec
   behind_inside = own_letter.own.inside
@@ -196,6 +197,6 @@ module _ (rec : List ℕ) (at : ℕ) {t s j : ℕ} {r : Found} (e : r ≡ Field 
           ends = omega (arith, d.begins, d.ends, own_letter.own.start, own_letter.own.ends, own_letter.one, size_append (map (λ w. field name_tag w) d.nm) (many element_fields d.v));
         }
 
-    pub place_as : (r : OnePlace) → IsParts named (get_or rec s 0) rec j r → IsPlace named rec at r
-    place_as (Is n begin k) d = place_is d
-    place_as NoPlace d = same_parts ∙ d
+    pub place_as : (r : Maybe OnePlace) → IsParts named (get_or rec s 0) rec j r → IsPlace named rec at r
+    place_as (Some p) d = place_is d
+    place_as None d = same_parts ∙ d

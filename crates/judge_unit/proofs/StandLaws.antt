@@ -7,10 +7,11 @@ use Prim.Native.Nat.{ℕ, suc, zero, ◌+◌, ◌<◌, ◌≤◌}
 use native.Mathlib.Omega.{arith}
 use lib.ListN.{length, get_or, drop, drop_of_length-le}
 use lib.Dec.{leb, eqb}
-use borrow.Author.Tests.{not-true, le-leb, lt-leb, leb-true, eq-eqb, ne_eqb, eqb-true}
+use borrow.Author.Tests.{not-true, le-leb, leb-true, eq-eqb, ne_eqb, eqb-true}
 use Rattle.laws.specs.Cases.{by_bool, and_l, and_r, and_false, or_cases}
 use Rattle.laws.specs.Ranges.{alike, in_range}
-use Rattle.laws.specs.Lists.{all, all_at, next}
+use Rattle.std.specs.List.{list_all}
+use Rattle.laws.specs.Lists.{all, next}
 use Rattle.rules.specs.Refusals.{most_value, most_fraction, most_word}
 use Rattle.rules.specs.Characters.{byte, between, is_letter, is_alnum, is_word_char}
 use Rattle.rules.specs.Units.{Radix, r_d, r_o, r_b, Base, plain, keys, Unit, num, keyed, identifier, symbolic, text, is_held_key, run_of, is_digit_of, at_stop, dotted, fraction, numeral, base_of, radix_at, base_at, is_identifier, is_symbolic_name}
@@ -18,9 +19,12 @@ use Rattle.rules.specs.Records.{numeral_tag, keyed_tag, identifier_tag, symbolic
 use Rattle.rules.specs.WellFormed.{is_none, wf_unit, ok_fraction, is_decimal}
 use Rattle.digits.specs.Digits.{plain_letter}
 use Rattle.digits.proofs.LetterLaws.{by_letter_lem, is_plain, no_base}
-use Rattle.units.specs.declared.Word.{Word as Answer}
-use Rattle.units.specs.declared.Word.TheVariants.{Numeral, Keyed, Identifier, Symbolic, Unreadable, TooBig}
-use Rattle.units.specs.Words.{sized, of_numeral}
+use Rattle.std.proofs.Common.{Ok, Err}
+use Rattle.units.specs.declared.Word.{Word}
+use Rattle.units.specs.declared.Fault.{Fault}
+use Rattle.units.specs.declared.Fault.TheVariants.{Unreadable, TooBig}
+use Rattle.units.specs.Words.{Answer, sized, of_numeral}
+use Rattle.units.proofs.AllLaws.{same_all}
 use Rattle.units.proofs.WordLaws.{Of, numeral_of}
 use Rattle.judge_unit.specs.Units.{ok_at, may_stand, unit_stands, stands_as, numeral_stands}
 
@@ -54,13 +58,10 @@ module _ (p : Bool) (w : List ℕ) (i : ℕ) where
 -- ---- no numeral
 
 -- the answer is that the word is no numeral
-abbrev pub unread : Answer → Bool
-unread (Numeral l f v) = false
-unread (Keyed k) = false
-unread Identifier = false
-unread Symbolic = false
-unread Unreadable = true
-unread TooBig = false
+abbrev unread : Answer → Bool
+unread (Ok u) = false
+unread (Err Unreadable) = true
+unread (Err TooBig) = false
 
 sized_unread : (l f v : ℕ) → unread (sized l f v) ≡ false
 unfolding sized
@@ -75,8 +76,18 @@ unread_of l k w (some (identifier x)) h = absurd h
 unread_of l k w (some (symbolic x)) h = absurd h
 unread_of l k w (some (text x)) h = absurd h
 
-pub none_is : (l : ℕ) (w : List ℕ) {a : Answer} → a ≡ of_numeral l 0 (numeral (base_at l) (drop 0 w)) → unread a ≡ is_none (numeral (base_at l) w)
+none_is : (l : ℕ) (w : List ℕ) {a : Answer} → a ≡ of_numeral l 0 (numeral (base_at l) (drop 0 w)) → unread a ≡ is_none (numeral (base_at l) w)
 none_is l w e = ap unread e ∙ unread_of l 0 w (numeral (base_at l) w) (numeral_of l 0 w)
+
+module _ (l : ℕ) (w : List ℕ) {a : Answer} (e : a ≡ of_numeral l 0 (numeral (base_at l) (drop 0 w))) where
+  pub unread_yes : {f : Fault} → a ≡ Err f → f ≡ Unreadable → true ≡ is_none (numeral (base_at l) w)
+  unread_yes q z = sym (ap unread (q ∙ ap (λ f. Err f) z)) ∙ none_is l w e
+
+  pub unread_big : {f : Fault} → a ≡ Err f → f ≡ TooBig → false ≡ is_none (numeral (base_at l) w)
+  unread_big q z = sym (ap unread (q ∙ ap (λ f. Err f) z)) ∙ none_is l w e
+
+  pub unread_word : {u : Word} → a ≡ Ok u → false ≡ is_none (numeral (base_at l) w)
+  unread_word q = sym (ap unread q) ∙ none_is l w e
 
 -- ---- an identifier is no numeral of D, O and B: no letter is a digit of theirs, and none is the full stop
 
@@ -133,42 +144,13 @@ ident_none b w h nh nk =
 
 -- ---- keyed numerals
 
-pub keyed_empty : (w : List ℕ) → length w ≡ 0 → false ≡ run_of is_held_key w && leb (length w) most_word
-keyed_empty [] h = refl
-keyed_empty (c ∷ cs) h = absurd (omega arith)
-
-pub keyed_long : (w : List ℕ) → most_word < length w → false ≡ run_of is_held_key w && leb (length w) most_word
-keyed_long w h = rw (lt-leb (length w) most_word h) (sym (and_false (run_of is_held_key w)))
-
-pub keyed_all : (w : List ℕ) {t : Bool} → (length w ≡ 0 → ⊥) → length w ≤ most_word → t ≡ all_at is_held_key w 0 → t ≡ run_of is_held_key w && leb (length w) most_word
-unfolding all_at
-keyed_all [] n h e = absurd (n refl)
-keyed_all (c ∷ cs) n h e = rw (le-leb (length (c ∷ cs)) most_word h, and_true (all is_held_key (c ∷ cs))) e
+pub keyed_all : (w : List ℕ) → 1 ≤ length w → length w ≤ most_word → list_all is_held_key w ≡ run_of is_held_key w && leb (length w) most_word
+keyed_all [] n h = absurd (omega arith)
+keyed_all (c ∷ cs) n h = rw (le-leb (length (c ∷ cs)) most_word h, and_true (all is_held_key (c ∷ cs))) (same_all is_held_key (c ∷ cs))
 
 -- ---- names: the rules' chain of tests
 
 module _ (b : ℕ) (w : List ℕ) where
-  pub ident_long : most_word < length w → false ≡ wf_unit (base_at b) (identifier w)
-  ident_long h = rw (lt-leb (length w) most_word h) (sym (and_false (is_identifier w && is_none (numeral (base_at b) w))))
-
-  pub ident_yes : {t r : Bool} → length w ≤ most_word → t ≡ is_identifier w → t ≡ true → r ≡ is_none (numeral (base_at b) w) → r ≡ wf_unit (base_at b) (identifier w)
-  ident_yes h e y q = rw (← e, y, le-leb (length w) most_word h, and_true (is_none (numeral (base_at b) w))) q
-
-  pub ident_no : {t : Bool} → t ≡ is_identifier w → t ≡ false → false ≡ wf_unit (base_at b) (identifier w)
-  ident_no e y = rw (← e, y)
-
-  pub symbol_long : most_word < length w → false ≡ wf_unit (base_at b) (symbolic w)
-  symbol_long h = rw (lt-leb (length w) most_word h, and_false (is_symbolic_name w && not (is_identifier w) && is_none (numeral (base_at b) w)))
-
-  pub symbol_ident : {t : Bool} → t ≡ is_identifier w → t ≡ true → false ≡ wf_unit (base_at b) (symbolic w)
-  symbol_ident e y = rw (← e, y, and_false (is_symbolic_name w))
-
-  pub symbol_not : {t : Bool} → t ≡ is_symbolic_name w → t ≡ false → false ≡ wf_unit (base_at b) (symbolic w)
-  symbol_not e y = rw (sym e ∙ y)
-
-  pub symbol_num : {t : Bool} → t ≡ is_none (numeral (base_at b) w) → t ≡ false → false ≡ wf_unit (base_at b) (symbolic w)
-  symbol_num e y = rw (← e, y, and_false (is_symbolic_name w && not (is_identifier w)))
-
   pub symbol_yes : {i s n r : Bool} → length w ≤ most_word → i ≡ is_identifier w → i ≡ false → s ≡ is_symbolic_name w → s ≡ true
       → n ≡ is_none (numeral (base_at b) w) → n ≡ true → r ≡ ok_at false w 0 → r ≡ wf_unit (base_at b) (symbolic w)
   unfolding ok_at
@@ -200,15 +182,9 @@ numeral_is b w h m =
 
 -- ---- a fraction
 
-pub fraction_none : (r : Radix) (f : ℕ) → f ≡ 0 → true ≡ ok_fraction r f
-fraction_none r f e = rw e
-
 fraction_some : (r : Radix) (f : ℕ) → (f ≡ 0 → ⊥) → ok_fraction r f ≡ is_decimal r && leb f most_fraction
 fraction_some r zero h = absurd (h refl)
 fraction_some r (suc f) h = refl
-
-pub fraction_decimal : (l f : ℕ) → (f ≡ 0 → ⊥) → l ≡ byte "D" → leb f most_fraction ≡ ok_fraction (radix_at l) f
-fraction_decimal l f h e = rw (fraction_some (radix_at l) f h, e)
 
 pub fraction_not : (l f : ℕ) → (f ≡ 0 → ⊥) → (l ≡ byte "D" → ⊥) → plain_letter l ≡ true → false ≡ ok_fraction (radix_at l) f
 unfolding plain_letter

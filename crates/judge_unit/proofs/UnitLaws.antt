@@ -3,21 +3,23 @@ use mathlib.Core.Path.{◌≡◌, refl, sym, ◌∙◌, subst}
 use mathlib.Core.Bool.{Bool, true, false, ◌&&◌, false≢true}
 use mathlib.Core.List.{List}
 use mathlib.Core.Option.{Option, none, some}
-use Prim.Native.Nat.{ℕ, zero, suc, ◌+◌, ◌-◌, ◌≤◌}
+use Prim.Native.Nat.{ℕ, ◌+◌, ◌-◌, ◌≤◌}
 use native.Mathlib.Omega.{arith}
 use borrow.Author.Tests.{ne_eqb, eqb-true, leb-true}
 use lib.Dec.{leb, eqb}
 use lib.ListN.{length, get_or, drop, take-append-drop}
 use native.Mathlib.Nat.{add-zero}
-use Rattle.laws.specs.Cases.{and_l, and_r}
+use Rattle.std.specs.Bool.{then_some}
+use Rattle.laws.specs.Cases.{by_bool, and_l, and_r}
 use Rattle.rules.specs.Refusals.{most_value}
 use Rattle.rules.specs.Characters.{byte}
 use Rattle.rules.specs.Units.{r_d, Base, Unit, base_at}
 use Rattle.rules.specs.Records.{numeral_tag, num4, unit_of}
 use Rattle.rules.specs.WellFormed.{ok_fraction}
 use Rattle.digits.specs.Digits.{plain_letter}
-use Rattle.record_walk.specs.declared.Found.{Found}
-use Rattle.record_walk.specs.declared.Found.TheVariants.{Field, Nothing}
+use Rattle.std.specs.Prelude.{Option as Maybe, Some, None}
+use Rattle.record_walk.specs.declared.Field.{Field}
+use Rattle.record_walk.specs.declared.Tag.TheVariants.{Numeral}
 use Rattle.record_walk.specs.Fields.{fits, length_at, field_at}
 use Rattle.record_walk.specs.Runs.{bytes_in}
 use Rattle.record_walk.proofs.FrontLaws.{Small, small_front, small_drop}
@@ -28,23 +30,9 @@ use Rattle.judge_unit.proofs.StandLaws.{numeral_is}
 
 -- ---- a field that was found
 
-pub unit_gone : (b : Base) (rec : List ℕ) (at : ℕ) {r : Found} → r ≡ Nothing → r ≡ field_at rec at → unit b (drop at rec) ≡ none
+pub unit_gone : (b : Base) (rec : List ℕ) (at : ℕ) {r : Maybe Field} → r ≡ None → r ≡ field_at rec at → unit b (drop at rec) ≡ none
 unfolding unit
 unit_gone b rec at e q = rw (nothing_there rec at e q)
-
-pub ends_there : {b : Base} {rec : List ℕ} {at : ℕ} (k : ℕ) → UnitTo b rec at k → IsUnit b rec at k
-ends_there zero u = absurd (omega (arith, u.on))
-ends_there (suc k) u = u
-
--- what the answer says, by whether it is 0
-module _ (b : Base) (rec : List ℕ) (at : ℕ) where
-  pub unit_no : (k : ℕ) → IsUnit b rec at k → k ≡ 0 → unit b (drop at rec) ≡ none
-  unit_no zero u e = u
-  unit_no (suc k) u e = absurd (omega arith)
-
-  pub unit_yes : (k : ℕ) → IsUnit b rec at k → (k ≡ 0 → ⊥) → UnitTo b rec at k
-  unit_yes zero u e = absurd (e refl)
-  unit_yes (suc k) u e = u
 
 module _ (b : Base) {rec : List ℕ} {at t s k : ℕ} (f : IsField rec at t s k) where
   by_unit : (o : Option Unit) → unit_of t (bytes_in rec s k) ≡ o → may_stand b o ≡ true → UnitTo b rec at k
@@ -61,9 +49,16 @@ module _ (b : Base) {rec : List ℕ} {at t s k : ℕ} (f : IsField rec at t s k)
   no_unit none q h = rw (f.is, q)
   no_unit (some u) q h = rw (f.is, q, h)
 
-  pub unit_unfit : {r : Bool} → r ≡ unit_stands b t (bytes_in rec s k) → r ≡ false → unit b (drop at rec) ≡ none
+  unit_unfit : {r : Bool} → r ≡ unit_stands b t (bytes_in rec s k) → r ≡ false → unit b (drop at rec) ≡ none
   unfolding unit_stands
   unit_unfit e h = no_unit (unit_of t (bytes_in rec s k)) refl (sym e ∙ h)
+
+  -- what the answer says, by whether the content may stand
+  pub unit_told : IsUnit b rec at (then_some (unit_stands b t (bytes_in rec s k)) k)
+  unit_told =
+      by_bool (unit_stands b t (bytes_in rec s k))
+      (λ y. rw y (unit_found_lem refl y))
+      (λ y. rw y (unit_unfit refl y))
 
 pub numeral_long : {rec : List ℕ} {at t s k : ℕ} → IsField rec at t s k → t ≡ numeral_tag → k ≡ s + 6
 unfolding fits
@@ -109,7 +104,7 @@ module _ (b : ℕ) (rec : List ℕ) (at : ℕ) (sm : Small rec) (inside : at ≤
       let low : get_or rec (2 + at) 0 ≡ 6 = omega (arith, sm at, sm (1 + at), sm (2 + at), sm (3 + at)) in
       let letter : get_or rec (at + 3) 0 ≡ 68 = rw (← three) (omega (arith, sm at, sm (1 + at), sm (2 + at), sm (3 + at))) in
       let size : 6 ≡ length_at rec at = rw (← one, ← two, high, low) in
-      let f : IsField rec at 7 (at + 3) (at + 3 + 6) = rw tag at (finds rec at (Field (get_or rec at 0) (at + 3) (at + 3 + 6)) (field_fits rec at 6 size (omega arith) (omega arith) refl (rw tag))) in
+      let f : IsField rec at 7 (at + 3) (at + 3 + 6) = finds rec at (Some (record { tag = Numeral; start = at + 3; next = at + 3 + 6 })) (field_fits rec at 6 size (omega arith) (omega arith) (rw tag) refl refl refl) in
       let four : at + 3 + 1 ≡ at + 4 = omega arith in
       let nine : at + 3 + 6 ≡ at + 9 = omega arith in
       let good : numeral_stands b (get_or rec (at + 3) 0) (get_or rec (at + 3 + 1) 0) ≡ true = rw (letter, four) (decimal_stands b (get_or rec (at + 4) 0) few nk) in

@@ -1,5 +1,5 @@
 -- A unit, read from the front of a record's bytes as document 01's rules read it, and the rules on it met at once.
-use Rattle.std.specs.Prelude.{◌≡◌, Bool, false, ◌&&◌, List, ℕ, zero, suc, ◌+◌, ◌≤◌, ◌<◌, leb, eqb, length, get_or, drop}
+use Rattle.std.specs.Prelude.{◌≡◌, Bool, false, ◌&&◌, List, ℕ, ◌+◌, ◌≤◌, ◌<◌, leb, eqb, length, get_or, drop, Option as Maybe, Some, None}
 use Rattle.std.proofs.Math.Option.{Option, none, some}
 use Rattle.laws.specs.Cases.{pick}
 use Rattle.rules.specs.Characters.{byte}
@@ -59,6 +59,6 @@ pub record UnitTo (b : Base) (rec : List ℕ) (at k : ℕ) : Type 0 where
   pub on : at < k
   pub inside : k ≤ length rec
 
-abbrev pub IsUnit : Base → List ℕ → ℕ → ℕ → Type 0
-IsUnit b rec at zero = unit b (drop at rec) ≡ none
-IsUnit b rec at (suc k) = UnitTo b rec at (suc k)
+abbrev pub IsUnit : Base → List ℕ → ℕ → Maybe ℕ → Type 0
+IsUnit b rec at None = unit b (drop at rec) ≡ none
+IsUnit b rec at (Some k) = UnitTo b rec at k

@@ -16,8 +16,9 @@ use Rattle.rules.specs.Commands.{single, range}
 use Rattle.rules.specs.Records.{single_tag, range_tag, numeral_tag, is_element, bytes_of, ends, num4, range_of, element_of}
 use Rattle.rules.specs.WellFormed.{wf_unit}
 use Rattle.rules.proofs.DecodeEncode.{four, value_small, last_split_lem}
-use Rattle.record_walk.specs.declared.Found.{Found}
-use Rattle.record_walk.specs.declared.Found.TheVariants.{Nothing}
+use Rattle.std.specs.Prelude.{Option as Maybe, Some, None}
+use Rattle.std.proofs.lemmas.Option.{same_Some}
+use Rattle.record_walk.specs.declared.Field.{Field}
 use Rattle.record_walk.specs.Fields.{fits, field_at}
 use Rattle.record_walk.specs.Fronts.{only, made, head_tag}
 use Rattle.record_walk.specs.Runs.{bytes_in}
@@ -26,21 +27,12 @@ use Rattle.record_walk.proofs.RunLaws.{number_in}
 use Rattle.record_walk.proofs.WalkLaws.{IsField, nothing_there, tag_there, tag_inside}
 use Rattle.judge_unit.specs.Units.{unit}
 use Rattle.judge_unit.proofs.UnitBytes.{unit_fields, unit_is, unit_tag}
-use Rattle.judge_value.specs.declared.Lower.{Lower}
-use Rattle.judge_value.specs.declared.Lower.TheVariants.{Is as Whole, Bad as NotWhole}
-use Rattle.judge_value.specs.declared.Terms.{Terms}
-use Rattle.judge_value.specs.declared.Terms.TheVariants.{More, Bad}
 use Rattle.judge_value.specs.Elements.{in_order, element, whole_in, lower_at, more_of, terms_of}
 use Rattle.judge_value.specs.Judging.{UnitsAre, IsUnits, ElementIs}
-use Rattle.judge_value.specs.declared.Units.{Units}
-use Rattle.judge_value.specs.declared.Units.TheVariants.{Are, Bad as NoUnits}
 
 -- ---- the lower end, from the last unit's bytes
 
-whole_inj : {a b : ℕ} → ◌≡◌ {A = Lower} (Whole a) (Whole b) → a ≡ b
-whole_inj e = cc
-
-not_whole : {C : Type 0} {v : ℕ} → ◌≡◌ {A = Lower} NotWhole (Whole v) → C
+not_whole : {C : Type 0} {v : ℕ} → ◌≡◌ {A = Maybe ℕ} None (Some v) → C
 not_whole e = let z : ◌≡◌ {A = ℕ} 0 1 = cc in absurd (omega arith)
 
 -- a range of these units and ends
@@ -48,15 +40,15 @@ record RangeFrom (l : List Unit) (u : Unit) (lo up inc : ℕ) : Type 0 where
   r : Radix
   is : range_of up inc (ends l u) ≡ some (range l r lo up inc)
 
-range_from : (l : List Unit) (u : Unit) (lo up inc : ℕ) → whole_in u ≡ Whole lo → RangeFrom l u lo up inc
+range_from : (l : List Unit) (u : Unit) (lo up inc : ℕ) → whole_in u ≡ Some lo → RangeFrom l u lo up inc
 range_from l (num r f v) lo up inc h =
-    by_bool (eqb f 0) (λ y. record { r = r; is = rw (y, whole_inj (rw y at h)) }) (λ y. not_whole (rw y at h))
+    by_bool (eqb f 0) (λ y. record { r = r; is = rw (y, same_Some v lo (rw y at h)) }) (λ y. not_whole (rw y at h))
 range_from l (keyed w) lo up inc h = not_whole h
 range_from l (identifier w) lo up inc h = not_whole h
 range_from l (symbolic w) lo up inc h = not_whole h
 range_from l (text w) lo up inc h = not_whole h
 
-no_range : (l : List Unit) (u : Unit) (up inc : ℕ) → whole_in u ≡ NotWhole → range_of up inc (ends l u) ≡ none
+no_range : (l : List Unit) (u : Unit) (up inc : ℕ) → whole_in u ≡ None → range_of up inc (ends l u) ≡ none
 no_range l (num r f v) up inc h = by_bool (eqb f 0) (λ y. not_whole (sym (rw y at h))) (λ y. rw y)
 no_range l (keyed w) up inc h = refl
 no_range l (identifier w) up inc h = refl
@@ -102,20 +94,20 @@ module _ (b : Base) (rec : List ℕ) (l : ℕ) (u : Unit) (k : ℕ) (s : Small r
 
 -- ---- the terms of a range
 
-abbrev IsTerms : List ℕ → ℕ → Lower → Terms → Type 0
-IsTerms rec s (Whole lo) (More m) = (leb lo (num4 rec s) && leb 1 (num4 rec (s + 4)) ≡ true) × (m ≡ (num4 rec s - lo) / num4 rec (s + 4))
-IsTerms rec s (Whole lo) Bad = leb lo (num4 rec s) && leb 1 (num4 rec (s + 4)) ≡ false
-IsTerms rec s NotWhole (More m) = ⊥
-IsTerms rec s NotWhole Bad = Always
+abbrev IsTerms : List ℕ → ℕ → Maybe ℕ → Maybe ℕ → Type 0
+IsTerms rec s (Some lo) (Some m) = (leb lo (num4 rec s) && leb 1 (num4 rec (s + 4)) ≡ true) × (m ≡ (num4 rec s - lo) / num4 rec (s + 4))
+IsTerms rec s (Some lo) None = leb lo (num4 rec s) && leb 1 (num4 rec (s + 4)) ≡ false
+IsTerms rec s None (Some m) = ⊥
+IsTerms rec s None None = Always
 
-terms_there : (rec : List ℕ) (s : ℕ) (o : Lower) → IsTerms rec s o (terms_of rec s o)
+terms_there : (rec : List ℕ) (s : ℕ) (o : Maybe ℕ) → IsTerms rec s o (terms_of rec s o)
 unfolding more_of
-terms_there rec s (Whole lo) =
-    pick_if (IsTerms rec s (Whole lo)) (leb lo (num4 rec s))
-    (λ y. pick_if (IsTerms rec s (Whole lo)) (leb 1 (num4 rec (s + 4))) (λ z. (rw (y, z), refl)) (λ z. rw (y, z))) (λ y. rw y)
-terms_there rec s NotWhole = tt
+terms_there rec s (Some lo) =
+    pick_if (IsTerms rec s (Some lo)) (leb lo (num4 rec s))
+    (λ y. pick_if (IsTerms rec s (Some lo)) (leb 1 (num4 rec (s + 4))) (λ z. (rw (y, z), refl)) (λ z. rw (y, z))) (λ y. rw y)
+terms_there rec s None = tt
 
-terms_is : (rec : List ℕ) (s : ℕ) (o : Lower) (m : Terms) → m ≡ terms_of rec s o → IsTerms rec s o m
+terms_is : (rec : List ℕ) (s : ℕ) (o : Maybe ℕ) (m : Maybe ℕ) → m ≡ terms_of rec s o → IsTerms rec s o m
 terms_is rec s o m e = subst (IsTerms rec s o) (sym e) (terms_there rec s o)
 
 -- ---- the element
@@ -127,12 +119,9 @@ element_inside rec at h =
     let some : 1 ≤ t = or_cases (eqb t single_tag) (eqb t range_tag) h (λ y. omega (arith, eqb-true t single_tag y)) (λ y. omega (arith, eqb-true t range_tag y)) in
     omega (arith, tag_inside rec at some)
 
-pub element_gone : (b : Base) (rec : List ℕ) (at : ℕ) {r : Found} → r ≡ Nothing → r ≡ field_at rec at → element b (drop at rec) ≡ none
+pub element_gone : (b : Base) (rec : List ℕ) (at : ℕ) {r : Maybe Field} → r ≡ None → r ≡ field_at rec at → element b (drop at rec) ≡ none
 unfolding element
 element_gone b rec at e q = rw (nothing_there rec at e q)
-
-pub units_there : (b : Base) (rec : List ℕ) (at : ℕ) {n l k : ℕ} {r : Units} → r ≡ Are n l k → IsUnits b rec at r → UnitsAre b rec at n l k
-units_there b rec at e i = subst (IsUnits b rec at) e i
 
 -- the last unit, which may be a lower end
 module _ {b : Base} {rec : List ℕ} {at n l k : ℕ} (g : UnitsAre b rec at n l k) where
@@ -143,9 +132,9 @@ module _ {b : Base} {rec : List ℕ} {at n l k : ℕ} (g : UnitsAre b rec at n l
   lower_room s h = field_there_room b rec l g.u k s g.last h
 
 module _ {rec : List ℕ} {at t s k : ℕ} (f : IsField rec at t s k) where
-  pub units_gone : (b : Base) {r : Units} → r ≡ NoUnits → IsUnits b rec k r → element b (drop at rec) ≡ none
+  pub units_gone : (b : Base) → IsUnits b rec k None → element b (drop at rec) ≡ none
   unfolding element
-  units_gone b e i = rw (f.is, subst (IsUnits b rec k) e i)
+  units_gone b i = rw (f.is, i)
 
   single_content : t ≡ single_tag → bytes_in rec s k ≡ []
   unfolding fits
@@ -199,12 +188,12 @@ module _ {rec : List ℕ} {at t s k : ℕ} (f : IsField rec at t s k) where
       of_range = rw (six, long) (ap (λ z. range_of z (num4 (bytes_in rec s k) 4) (ends g.lead g.u)) up ∙ ap (λ z. range_of (num4 rec s) z (ends g.lead g.u)) inc)
 
       -- what the answer on its terms says
-      abbrev RangeAs : Terms → Type 0
-      RangeAs (More m) = ElementIs b rec at n m j
-      RangeAs Bad = element b (drop at rec) ≡ none
+      abbrev RangeAs : Maybe ℕ → Type 0
+      RangeAs (Some m) = ElementIs b rec at n m j
+      RangeAs None = element b (drop at rec) ≡ none
 
-      range_as : (o : Lower) → whole_in g.u ≡ o → (r : Terms) → IsTerms rec s o r → RangeAs r
-      range_as (Whole lo) q (More m) y =
+      range_as : (o : Maybe ℕ) → whole_in g.u ≡ o → (r : Maybe ℕ) → IsTerms rec s o r → RangeAs r
+      range_as (Some lo) q (Some m) y =
           let x = range_from g.lead g.u lo (num4 rec s) (num4 rec (s + 4)) q in
           record {
             e = range g.lead x.r lo (num4 rec s) (num4 rec (s + 4));
@@ -213,16 +202,16 @@ module _ {rec : List ℕ} {at t s k : ℕ} (f : IsField rec at t s k) where
             units = g.count;
             counts = ap (λ z. z + 1) (sym y.1);
           }
-      range_as (Whole lo) q Bad y = made_of ∙ rw (of_range, (range_from g.lead g.u lo (num4 rec s) (num4 rec (s + 4)) q).is, y)
-      range_as NotWhole q (More m) y = absurd y
-      range_as NotWhole q Bad y = made_of ∙ rw (of_range, no_range g.lead g.u (num4 rec s) (num4 rec (s + 4)) q)
+      range_as (Some lo) q None y = made_of ∙ rw (of_range, (range_from g.lead g.u lo (num4 rec s) (num4 rec (s + 4)) q).is, y)
+      range_as None q (Some m) y = absurd y
+      range_as None q None y = made_of ∙ rw (of_range, no_range g.lead g.u (num4 rec s) (num4 rec (s + 4)) q)
 
-      module _ {r : Terms} (sm : Small rec) (e : r ≡ terms_of rec s (lower_at rec l)) where
+      module _ {r : Maybe ℕ} (sm : Small rec) (e : r ≡ terms_of rec s (lower_at rec l)) where
         range_there : RangeAs r
         range_there = range_as (whole_in g.u) refl r (terms_is rec s (whole_in g.u) r (e ∙ ap (terms_of rec s) (lower_is b rec l g.u j sm g.last)))
 
-        pub range_is : {m : ℕ} → r ≡ More m → ElementIs b rec at n m j
+        pub range_is : {m : ℕ} → r ≡ Some m → ElementIs b rec at n m j
         range_is x = subst RangeAs x range_there
 
-        pub range_bad : r ≡ Bad → element b (drop at rec) ≡ none
+        pub range_bad : r ≡ None → element b (drop at rec) ≡ none
         range_bad x = subst RangeAs x range_there

@@ -12,8 +12,7 @@ use Rattle.rules.specs.Units.{Base, Unit}
 use Rattle.rules.specs.Records.{is_unit}
 use Rattle.record_walk.specs.Fronts.{head_tag, before, several}
 use Rattle.record_walk.proofs.FrontLaws.{before_nil, going_end, going_full, going_bad, going_more}
-use Rattle.judge_unit.specs.Units.{unit, UnitTo, IsUnit}
-use Rattle.judge_unit.proofs.UnitLaws.{unit_yes}
+use Rattle.judge_unit.specs.Units.{unit, UnitTo}
 use Rattle.judge_unit.proofs.UnitBytes.{unit_tag}
 use Rattle.judge_value.specs.Elements.{same_base, few_units, units}
 use Rattle.judge_value.specs.Judging.{UnitsAre}
@@ -88,5 +87,5 @@ module _ {b : Base} {rec : List ℕ} {from at n l t : ℕ} {y : Bool} (v : Units
       }
 
 -- the loop goes on
-pub units_less : (b : Base) (rec : List ℕ) (at k : ℕ) → IsUnit b rec at k → (k ≡ 0 → ⊥) → length rec - k < length rec - at
-units_less b rec at k i z = let w = unit_yes b rec at k i z in omega (arith, w.on, w.inside)
+pub units_less : (b : Base) (rec : List ℕ) (at k : ℕ) → UnitTo b rec at k → length rec - k < length rec - at
+units_less b rec at k w = omega (arith, w.on, w.inside)

@@ -1,5 +1,5 @@
 -- A value from the front: each turn of the loop over elements reads one more that joins those before.
-use mathlib.Core.Path.{◌≡◌, refl, sym, ap, ◌∙◌, subst}
+use mathlib.Core.Path.{◌≡◌, refl, sym, ap, ◌∙◌}
 use mathlib.Core.Bool.{Bool, true, false}
 use mathlib.Core.List.{List, [], ◌∷◌, ◌++◌, map}
 use mathlib.Core.Option.{none, some}
@@ -14,8 +14,7 @@ use Rattle.record_walk.proofs.FrontLaws.{before_nil, going_end, going_full, goin
 use Rattle.judge_value.specs.Elements.{joins, joining, next_element, behind, value}
 use Rattle.judge_value.proofs.ValueBytes.{state, joins_sum}
 use Rattle.judge_value.specs.Judging.{ElementIs, IsElement, ValueIs}
-use Rattle.judge_value.specs.declared.OneElement.{OneElement}
-use Rattle.judge_value.specs.declared.OneElement.TheVariants.{Is, Bad as NoElement}
+use Rattle.std.specs.Prelude.{None}
 
 sum_snoc : (es : List Element) (e : Element) → sum (map terms (es ++ (e ∷ []))) ≡ sum (map terms es) + terms e
 sum_snoc [] e = omega arith
@@ -23,9 +22,6 @@ sum_snoc (x ∷ es) e = omega (arith, sum_snoc es e)
 
 pub joined_few : (k a n more : ℕ) {g : Bool} → g ≡ joins k a n (more + 1) → g ≡ true → a + (more + 1) ≤ 4096
 joined_few k a n more p f = joins_sum k a n (more + 1) (sym p ∙ f)
-
-pub element_there : (b : Base) (rec : List ℕ) (at : ℕ) {n more k : ℕ} {r : OneElement} → r ≡ Is n more k → IsElement b rec at r → ElementIs b rec at n more k
-element_there b rec at e i = subst (IsElement b rec at) e i
 
 -- `done` was read up to `at`, at most `left` more may stand there
 pub record ValueRead (b : Base) (rec : List ℕ) (from at left k a : ℕ) : Type 0 where
@@ -58,17 +54,17 @@ module _ {b : Base} {rec : List ℕ} {from at left k a t : ℕ} {y : Bool} (v : 
   bad_here : y ≡ true → (left ≡ 0 → ⊥) → next_element (state b k a) (drop at rec) ≡ none → value b (drop from rec) ≡ none
   bad_here h z n = going_bad is_element next_element behind v.done left (state b k a) (drop at rec) v.is e (sym q ∙ h) z n
 
-  pub value_bad : y ≡ true → (left ≡ 0 → ⊥) → {r : OneElement} → r ≡ NoElement → IsElement b rec at r → value b (drop from rec) ≡ none
+  pub value_bad : y ≡ true → (left ≡ 0 → ⊥) → IsElement b rec at None → value b (drop from rec) ≡ none
   unfolding next_element
-  value_bad h z x i = bad_here h z (rw (subst (IsElement b rec at) x i))
+  value_bad h z i = bad_here h z (rw i)
 
   module _ {n more j : ℕ} {g : Bool} (d : ElementIs b rec at n more j) (p : g ≡ joins k a n (more + 1)) where
     joining_is : joining (state b k a) d.e ≡ g
     joining_is = rw (← d.units, d.counts) (sym p)
 
-    apart_here : y ≡ true → (left ≡ 0 → ⊥) → g ≡ false → value b (drop from rec) ≡ none
+    pub value_apart : y ≡ true → (left ≡ 0 → ⊥) → g ≡ false → value b (drop from rec) ≡ none
     unfolding next_element
-    apart_here h z f = bad_here h z (rw (d.is, joining_is, f))
+    value_apart h z f = bad_here h z (rw (d.is, joining_is, f))
 
     next_is_lem : g ≡ true → next_element (state b k a) (drop at rec) ≡ some (d.e, drop j rec)
     unfolding next_element
@@ -89,7 +85,3 @@ module _ {b : Base} {rec : List ℕ} {from at left k a t : ℕ} {y : Bool} (v : 
           counted = omega (arith, v.counted, sum_snoc v.done d.e, d.counts);
           few = omega (arith, joined_few k a n more p f);
         }
-
-  pub value_apart : {n more j : ℕ} {r : OneElement} {g : Bool} → r ≡ Is n more j → IsElement b rec at r → g ≡ joins k a n (more + 1) → y ≡ true → (left ≡ 0 → ⊥) → g ≡ false
-      → value b (drop from rec) ≡ none
-  value_apart x i p h z f = apart_here (element_there b rec at x i) p h z f

@@ -1,5 +1,5 @@
 -- Units, elements and values, read from the front of a record's bytes: each field as document 01's rules read it, and the rules on each met at once.
-use Rattle.std.specs.Prelude.{Bool, true, ◌&&◌, ◌||◌, not, List, ℕ, suc, ◌+◌, ◌-◌, ◌/◌, leb, eqb, length, get_or}
+use Rattle.std.specs.Prelude.{Bool, true, ◌&&◌, ◌||◌, not, List, ℕ, suc, ◌+◌, ◌-◌, ◌/◌, leb, eqb, length, get_or, Option as Maybe, Some, None}
 use Rattle.std.proofs.Math.Option.{Option}
 use Rattle.laws.specs.Lists.{is_nil}
 use Rattle.laws.specs.Cases.{pick}
@@ -9,10 +9,6 @@ use Rattle.rules.specs.Commands.{Element, single, range, leading, terms}
 use Rattle.rules.specs.Records.{Field, field, numeral_tag, is_unit, is_element, element_of, last_split, num4}
 use Rattle.record_walk.specs.Fronts.{Read, and_then, only, made, front, several}
 use Rattle.judge_unit.specs.Units.{unit}
-use Rattle.judge_value.specs.declared.Lower.{Lower}
-use Rattle.judge_value.specs.declared.Lower.TheVariants.{Is as Whole, Bad as NotWhole}
-use Rattle.judge_value.specs.declared.Terms.{Terms}
-use Rattle.judge_value.specs.declared.Terms.TheVariants.{More, Bad}
 
 -- ---- units
 
@@ -43,24 +39,24 @@ element b r = only in_order (and_then (front r) (λ f r₁. and_then (units b r�
 -- ---- a range's terms
 
 -- a numeral without fraction, as a range's ends are
-abbrev pub whole_in : Unit → Lower
-whole_in (num r f v) = pick (eqb f 0) (Whole v) NotWhole
-whole_in (keyed w) = NotWhole
-whole_in (identifier w) = NotWhole
-whole_in (symbolic w) = NotWhole
-whole_in (text w) = NotWhole
+abbrev pub whole_in : Unit → Maybe ℕ
+whole_in (num r f v) = pick (eqb f 0) (Some v) None
+whole_in (keyed w) = None
+whole_in (identifier w) = None
+whole_in (symbolic w) = None
+whole_in (text w) = None
 
 -- the same from a unit's field that stands at a position
-unfoldable pub lower_at : List ℕ → ℕ → Lower
-lower_at rec l = pick (eqb (get_or rec l 0) numeral_tag) (pick (eqb (get_or rec (l + 4) 0) 0) (Whole (num4 rec (l + 5))) NotWhole) NotWhole
+unfoldable pub lower_at : List ℕ → ℕ → Maybe ℕ
+lower_at rec l = pick (eqb (get_or rec l 0) numeral_tag) (pick (eqb (get_or rec (l + 4) 0) 0) (Some (num4 rec (l + 5))) None) None
 
 -- the terms behind a lower end, upper end and increment standing from s on
-unfoldable pub more_of : List ℕ → ℕ → ℕ → Terms
-more_of rec s lo = pick (leb lo (num4 rec s)) (pick (leb 1 (num4 rec (s + 4))) (More ((num4 rec s - lo) / num4 rec (s + 4))) Bad) Bad
+unfoldable pub more_of : List ℕ → ℕ → ℕ → Maybe ℕ
+more_of rec s lo = pick (leb lo (num4 rec s)) (pick (leb 1 (num4 rec (s + 4))) (Some ((num4 rec s - lo) / num4 rec (s + 4))) None) None
 
-abbrev pub terms_of : List ℕ → ℕ → Lower → Terms
-terms_of rec s (Whole lo) = more_of rec s lo
-terms_of rec s NotWhole = Bad
+abbrev pub terms_of : List ℕ → ℕ → Maybe ℕ → Maybe ℕ
+terms_of rec s (Some lo) = more_of rec s lo
+terms_of rec s None = None
 
 -- ---- a value
 

@@ -1,16 +1,13 @@
 -- What the judge's answers on units, elements and values say: what was read from the front of the bytes, its numbers, and where the rest begins.
-use Rattle.std.specs.Prelude.{◌≡◌, List, [], ◌∷◌, ◌++◌, map, ℕ, suc, ◌+◌, ◌≤◌, ◌<◌, length, drop}
+use Rattle.std.specs.Prelude.{◌≡◌, List, [], ◌∷◌, ◌++◌, map, ℕ, suc, ◌+◌, ◌≤◌, ◌<◌, length, drop, Option as Maybe, Some, None}
 use Rattle.std.proofs.Math.Option.{none, some}
 use Rattle.rules.specs.Units.{Base, Unit}
 use Rattle.rules.specs.Commands.{Element, leading, terms, sum}
 use Rattle.judge_unit.specs.Units.{unit}
 use Rattle.judge_value.specs.Elements.{units, element, value}
 use Rattle.judge_value.specs.declared.Units.{Units}
-use Rattle.judge_value.specs.declared.Units.TheVariants.{Are, Bad}
 use Rattle.judge_value.specs.declared.OneElement.{OneElement}
-use Rattle.judge_value.specs.declared.OneElement.TheVariants.{Is, Bad as NoElement}
 use Rattle.judge_value.specs.declared.Arguments.{Arguments}
-use Rattle.judge_value.specs.declared.Arguments.TheVariants.{Are as Number, Bad as NoValue}
 
 -- the n units that stand at `at`, the last of them at l; the next field begins at k
 pub record UnitsAre (b : Base) (rec : List ℕ) (at n l k : ℕ) : Type 0 where
@@ -22,9 +19,9 @@ pub record UnitsAre (b : Base) (rec : List ℕ) (at n l k : ℕ) : Type 0 where
   pub on : l < k
   pub inside : k ≤ length rec
 
-abbrev pub IsUnits : Base → List ℕ → ℕ → Units → Type 0
-IsUnits b rec at (Are n l k) = UnitsAre b rec at n l k
-IsUnits b rec at Bad = units b (drop at rec) ≡ none
+abbrev pub IsUnits : Base → List ℕ → ℕ → Maybe Units → Type 0
+IsUnits b rec at (Some u) = UnitsAre b rec at u.count u.last u.next
+IsUnits b rec at None = units b (drop at rec) ≡ none
 
 pub record ElementIs (b : Base) (rec : List ℕ) (at n more k : ℕ) : Type 0 where
   pub e : Element
@@ -33,9 +30,9 @@ pub record ElementIs (b : Base) (rec : List ℕ) (at n more k : ℕ) : Type 0 wh
   pub units : n ≡ suc (length (leading e))
   pub counts : terms e ≡ more + 1
 
-abbrev pub IsElement : Base → List ℕ → ℕ → OneElement → Type 0
-IsElement b rec at (Is n more k) = ElementIs b rec at n more k
-IsElement b rec at NoElement = element b (drop at rec) ≡ none
+abbrev pub IsElement : Base → List ℕ → ℕ → Maybe OneElement → Type 0
+IsElement b rec at (Some e) = ElementIs b rec at e.units e.more e.next
+IsElement b rec at None = element b (drop at rec) ≡ none
 
 pub record ValueIs (b : Base) (rec : List ℕ) (at n k : ℕ) : Type 0 where
   pub v : List Element
@@ -44,6 +41,6 @@ pub record ValueIs (b : Base) (rec : List ℕ) (at n k : ℕ) : Type 0 where
   pub arguments : n ≡ sum (map terms v)
   pub few : n ≤ 4096
 
-abbrev pub IsValue : Base → List ℕ → ℕ → Arguments → Type 0
-IsValue b rec at (Number n k) = ValueIs b rec at n k
-IsValue b rec at NoValue = value b (drop at rec) ≡ none
+abbrev pub IsValue : Base → List ℕ → ℕ → Maybe Arguments → Type 0
+IsValue b rec at (Some v) = ValueIs b rec at v.number v.next
+IsValue b rec at None = value b (drop at rec) ≡ none

@@ -2,9 +2,8 @@
 use Prim.Native.Nat.{ℕ, ◌-◌, ◌≤◌, ◌<◌}
 use mathlib.Core.Path.{◌≡◌, sym, ap, ◌∙◌}
 use mathlib.Core.Bool.{Bool}
-use native.Mathlib.Omega.{arith}
 use borrow.Author.Tests.{eq-eqb, ne_eqb, lt-ltb, le-ltb, le-leb, lt-leb}
-use Rattle.laws.specs.Cases.{pick, pick_all}
+use Rattle.laws.specs.Cases.{pick}
 use Rattle.rules.specs.declared.Keeper.{Keeper}
 use Rattle.rules.specs.declared.Pressed.{Pressed}
 use Rattle.rules.specs.Refusals.{ok, bad, no_key, most_text}
@@ -19,9 +18,6 @@ key_over k c h q = rw (lt-leb k.count 1024 h) q
 pub key_cancel : (k : Keeper) (c : ℕ) {r : Pressed} → k.count ≤ most_text → c ≡ 24 → r ≡ settled (ok (counted k 0)) k → r ≡ after_key k c
 unfolding after_key pressing
 key_cancel k c h j q = rw (le-leb k.count 1024 h, j) q
-
-pub back_most : (k : Keeper) (b : Bool) (m n : ℕ) → k.count ≤ most_text → n ≡ pick b 0 k.count → m ≡ n - 1 → m ≤ most_text
-back_most k b m n h f g = let most : n ≤ most_text = rw f (pick_all (λ i. i ≤ 1024) b (omega arith) h) in omega arith
 
 -- the key finds n bytes of the line
 module _ (k : Keeper) (c : ℕ) {b : Bool} {n : ℕ} (h : k.count ≤ most_text) (e : b ≡ ready (held k)) (f : n ≡ pick b 0 k.count) where

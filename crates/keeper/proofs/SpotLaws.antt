@@ -7,7 +7,7 @@ use native.Mathlib.Omega.{arith}
 use lib.Dec.{eqb}
 use lib.ListN.{length, get_or, take, drop, drop_of_length-le}
 use lib.Seq.{length-take-le, get_or-take, take-suc}
-use borrow.Author.Tests.{eq-eqb, ne_eqb, eqb-true}
+use borrow.Author.Tests.{ne_eqb, eqb-true}
 use Rattle.laws.specs.Cases.{by_bool, cond_both, cond_by, and_false}
 use Rattle.laws.specs.Lists.{next, is_nil}
 use Rattle.rules.specs.Characters.{is_word_char, is_effector}
@@ -133,23 +133,17 @@ module _ (l : List ℕ) (n : ℕ) where
   pub last_semi : {r : Bool} → (n ≡ 0 → ⊥) → r ≡ ready (take (n - 1 + 1) l) → r ≡ ready (take n l)
   last_semi z q = let e : n - 1 + 1 ≡ n = omega arith in q ∙ ap (λ m. ready (take m l)) e
 
-  pub last_other : (n ≡ 0 → ⊥) → n ≤ length l → (get_or l (n - 1) 0 ≡ 59 → ⊥) → false ≡ ready (take n l)
+  pub last_other : (n ≡ 0 → ⊥) → n ≤ length l → (get_or l (n - 1) 0 ≡ 59 → ⊥) → eqb (get_or l (n - 1) 0) 59 ≡ ready (take n l)
   last_other z h k =
       let m : ℕ = n - 1 in
       let snoc : take (suc m) l ≡ take m l ++ (get_or l m 0 ∷ []) = take-suc l m 0 (omega arith) in
       let e : suc m ≡ n = omega arith in
+      let no : eqb (get_or l m 0) 59 ≡ false = ne_eqb (get_or l m 0) 59 k in
       let unready : ready (take (suc m) l) ≡ false
-      = ready_spots (take (suc m) l) ∙ ap (ends_from Outside) snoc ∙ unended (take m l) Outside (get_or l m 0) (ne_eqb (get_or l m 0) 59 k) in
-      sym (ap (λ i. ready (take i l)) (sym e) ∙ unready)
+      = ready_spots (take (suc m) l) ∙ ap (ends_from Outside) snoc ∙ unended (take m l) Outside (get_or l m 0) no in
+      no ∙ sym (ap (λ i. ready (take i l)) (sym e) ∙ unready)
 
 -- ---- the walk
-
-module _ (s : Spot) (c : ℕ) where
-  pub here_semi : {r : Bool} → c ≡ 59 → r ≡ is_outside s → r ≡ ends_here s c
-  here_semi e q = q ∙ by_bool (is_outside s) (λ y. rw (y, eq-eqb c 59 e)) (λ y. rw y)
-
-  pub here_other : (c ≡ 59 → ⊥) → false ≡ ends_here s c
-  here_other e = by_bool (is_outside s) (λ y. rw (y, ne_eqb c 59 e)) (λ y. rw y)
 
 -- the line up to n, from i on, at the spot reached
 unfoldable pub ends_at : Spot → List ℕ → ℕ → ℕ → Bool
@@ -171,22 +165,33 @@ module _ (l : List ℕ) (n : ℕ) (h : n < length l) where
   byte_at : (i : ℕ) → i < n + 1 → drop i (take (n + 1) l) ≡ get_or l i 0 ∷ drop (i + 1) (take (n + 1) l)
   byte_at i k = rw (← get_or-take (n + 1) l i 0 k) (next (take (n + 1) l) i (omega (arith, long)))
 
+  front : length (take n l) ≡ n
+  front = length-take-le n l (omega arith)
+
+  -- a byte before the one at n
+  byte_in : (i : ℕ) → i < length (take n l) → drop i (take (n + 1) l) ≡ get_or (take n l) i 0 ∷ drop (i + 1) (take (n + 1) l)
+  byte_in i k =
+      let here : i < n = omega (arith, front) in
+      byte_at i (omega arith) ∙ ap (λ b. b ∷ drop (i + 1) (take (n + 1) l)) (sym (get_or-take n l i 0 here))
+
   -- an earlier `;` outside string and comment
-  pub walk_earlier : (i : ℕ) (s : Spot) {t r : Bool} → r ≡ ends_at s l n i → i < n → t ≡ ends_here s (get_or l i 0) → t ≡ true → false ≡ r
+  pub walk_earlier : (i : ℕ) (s : Spot) {t r : Bool} → r ≡ ends_at s l n i → i < length (take n l) → t ≡ ends_here s (get_or (take n l) i 0) → t ≡ true → false ≡ r
   unfolding ends_at ends_from
-  walk_earlier i s q k e y = sym (q ∙ rw (byte_at i (omega arith), ← e, ends_from, y, byte_at (i + 1) (omega arith)))
+  walk_earlier i s q k e y =
+      let here : i < n = omega (arith, front) in
+      sym (q ∙ rw (byte_in i k, ← e, ends_from, y, byte_at (i + 1) (omega arith)))
 
   -- any other byte
-  pub walk_more : (i : ℕ) (s : Spot) {t r : Bool} {s' : Spot} → r ≡ ends_at s l n i → i < n → t ≡ ends_here s (get_or l i 0) → t ≡ false
-      → s' ≡ turned s (get_or l i 0) → r ≡ ends_at s' l n (i + 1)
+  pub walk_more : (i : ℕ) (s : Spot) {t r : Bool} {s' : Spot} → r ≡ ends_at s l n i → i < length (take n l) → t ≡ ends_here s (get_or (take n l) i 0) → t ≡ false
+      → s' ≡ turned s (get_or (take n l) i 0) → r ≡ ends_at s' l n (i + 1)
   unfolding ends_at ends_from
-  walk_more i s q k e y e' = q ∙ rw (e', byte_at i (omega arith), ← e, ends_from, y)
+  walk_more i s q k e y e' = q ∙ rw (e', byte_in i k, ← e, ends_from, y)
 
   -- the `;` at n
-  pub walk_end : (i : ℕ) (s : Spot) {t r : Bool} → r ≡ ends_at s l n i → i ≤ n → n ≤ i → get_or l n 0 ≡ 59 → t ≡ is_outside s → t ≡ r
+  pub walk_end : (i : ℕ) (s : Spot) {t r : Bool} → r ≡ ends_at s l n i → i ≤ length (take n l) → length (take n l) ≤ i → get_or l n 0 ≡ 59 → t ≡ is_outside s → t ≡ r
   unfolding ends_at
   walk_end i s q k k' e e' =
-      let here : i ≡ n = omega arith in
+      let here : i ≡ n = omega (arith, front) in
       let none : drop (n + 1) (take (n + 1) l) ≡ [] = drop_of_length-le (take (n + 1) l) {i = n + 1} (omega (arith, long)) in
       let last : drop i (take (n + 1) l) ≡ 59 ∷ [] = rw (here, byte_at n (omega arith), e, none) in
       e' ∙ sym (q ∙ ap (ends_from s) last ∙ one_end s)

@@ -1,16 +1,15 @@
 // M-100: the line keeper, a key at a time.
 #![tactic(auto)]
 
-ghost use Rattle.std.specs.Prelude.{◌≡◌, ◌+◌, ◌-◌, ◌≤◌, ◌<◌, length, get_or, take};
-ghost use Rattle.laws.specs.Cases.{pick};
+ghost use Rattle.std.specs.Prelude.{◌≡◌, ◌+◌, ◌≤◌, ◌<◌, length, get_or, take};
 ghost use Rattle.rules.specs.Refusals.{ok, bad, no_key, most_text};
-ghost use Rattle.rules.specs.Keeping.{ready, flag, settled, after_key};
+ghost use Rattle.rules.specs.Keeping.{ready, settled, after_key};
 ghost use Rattle.keeper.specs.Spots.{opened, turned, is_outside, ends_here};
 
-use rules::{Answer, Keeper, NO_KEY, Pressed};
+use rules::{Keeper, MOST_TEXT, Pressed, Reason};
 
 // The bytes that a keeper carries.
-const MOST: u32 = rules::MOST_TEXT as u32;
+const MOST: u32 = MOST_TEXT as u32;
 
 // The keys that correct a line.
 const BACKSPACE: u8 = 8;
@@ -22,7 +21,7 @@ const END: u8 = b';';
 
 // Where the byte behind a line's bytes would stand: outside string and comment; there, behind a `/`; in a comment; there, behind a `*`;
 // in a string.
-#[derive(Clone, Copy)]
+#[derive(Clone, Copy, Debug, PartialEq, Eq)]
 pub enum Spot {
     Outside,
     Slashed,
@@ -31,74 +30,46 @@ pub enum Spot {
     InString,
 }
 
-// The spot behind a byte that stands outside string and comment.
-fn opening(b: u8) -> Spot
-    ensures { result ≡ opened b }
-{
-    match b {
-        b'/' => Spot::Slashed,
-        b'"' => Spot::InString,
-        _ => Spot::Outside,
+impl Spot {
+    // The spot behind a byte that stands outside string and comment.
+    fn opened(b: u8) -> Spot
+        ensures { result ≡ opened b }
+    {
+        match b {
+            b'/' => Spot::Slashed,
+            b'"' => Spot::InString,
+            _ => Spot::Outside,
+        }
     }
-}
 
-// The spot behind one more byte.
-fn turn(spot: Spot, b: u8) -> Spot
-    ensures { result ≡ turned spot b }
-{
-    match spot {
-        Spot::Outside => opening(b),
-        Spot::Slashed => {
-            if b == b'*' {
-                return Spot::InComment;
-            }
-            opening(b)
-        }
-        Spot::InComment => {
-            if b == b'*' {
-                return Spot::Starred;
-            }
-            Spot::InComment
-        }
-        Spot::Starred => {
-            if b == b'/' {
-                return Spot::Outside;
-            }
-            if b == b'*' {
-                return Spot::Starred;
-            }
-            Spot::InComment
-        }
-        Spot::InString => {
-            if b == b'"' {
-                return Spot::Outside;
-            }
-            Spot::InString
+    // The spot behind one more byte.
+    fn turned(self, b: u8) -> Spot
+        ensures { result ≡ turned self b }
+    {
+        match (self, b) {
+            (Spot::Slashed, b'*') => Spot::InComment,
+            (Spot::Outside | Spot::Slashed, _) => Spot::opened(b),
+            (Spot::InComment | Spot::Starred, b'*') => Spot::Starred,
+            (Spot::Starred, b'/') => Spot::Outside,
+            (Spot::InComment | Spot::Starred, _) => Spot::InComment,
+            (Spot::InString, b'"') => Spot::Outside,
+            (Spot::InString, _) => Spot::InString,
         }
     }
-}
 
-// Is a spot outside string and comment?
-fn is_outside(spot: Spot) -> bool
-    ensures { result ≡ is_outside spot }
-{
-    match spot {
-        Spot::Outside => true,
-        Spot::Slashed => true,
-        Spot::InComment => false,
-        Spot::Starred => false,
-        Spot::InString => false,
+    // Is it outside string and comment?
+    fn is_outside(self) -> bool
+        ensures { result ≡ is_outside self }
+    {
+        matches!(self, Spot::Outside | Spot::Slashed)
     }
-}
 
-// Does the byte, at this spot, end the line?
-fn ends(spot: Spot, b: u8) -> bool
-    ensures { result ≡ ends_here spot b }
-{
-    if b == END {
-        return is_outside(spot);
+    // Does the byte, at this spot, end the line?
+    fn ends(self, b: u8) -> bool
+        ensures { result ≡ ends_here self b }
+    {
+        self.is_outside() && b == END
     }
-    false
 }
 
 // Whether the line that ends with the `;` at `last` is ready: the walk over the bytes before.
@@ -107,19 +78,17 @@ fn ends_first(bytes: &[u8], last: usize) -> bool
     ensures { result ≡ ready (take (last + 1) bytes.now) }
 {
     let mut spot = Spot::Outside;
-    let mut i = 0usize;
-    while i < last {
-        let b = bytes[i];
-        if ends(spot, b) {
+    for b in &bytes[..last] {
+        if spot.ends(*b) {
             return false;
         }
-        spot = turn(spot, b);
-        i += 1;
+        spot = spot.turned(*b);
     }
-    is_outside(spot)
+    spot.is_outside()
 }
 
 // Whether the line of the first `count` bytes is ready. Where its last byte is no `;`, no other byte is looked at.
+#[tactic(auto, using(crate::proofs::SpotLaws::none_held, crate::proofs::SpotLaws::last_semi, crate::proofs::SpotLaws::last_other))]
 fn is_ready(bytes: &[u8], count: u32) -> bool
     requires { count ≤ length bytes.now }
     ensures { result ≡ ready (take count bytes.now) }
@@ -128,31 +97,7 @@ fn is_ready(bytes: &[u8], count: u32) -> bool
         return false;
     }
     let last = count as usize - 1;
-    if bytes[last] == END {
-        return ends_first(bytes, last);
-    }
-    false
-}
-
-// How many bytes of the line a key finds: "the next key starts an empty line".
-fn start(ready: bool, count: u32) -> u32
-    ensures { result ≡ pick ready 0 count }
-{
-    if ready { 0 } else { count }
-}
-
-// The answer's value.
-fn flagged(ready: bool) -> u32
-    ensures { result ≡ flag ready }
-{
-    if ready { 1 } else { 0 }
-}
-
-// One byte less; of no bytes none.
-fn less_one(n: u32) -> u32
-    ensures { result ≡ n - 1 }
-{
-    if n == 0 { 0 } else { n - 1 }
+    bytes[last] == END && ends_first(bytes, last)
 }
 
 // A key was taken: the keeper after it, and whether its line is ready.
@@ -160,9 +105,8 @@ fn taken(keeper: Keeper) -> Pressed
     requires { keeper.count ≤ 1024 }
     ensures { result ≡ settled (ok keeper) keeper }
 {
-    let count = keeper.count;
-    let ready = is_ready(&keeper.bytes, count);
-    let answer = Answer::Done(flagged(ready));
+    let ready = is_ready(&keeper.bytes, keeper.count);
+    let answer = Ok(u32::from(ready));
     Pressed { keeper, answer }
 }
 
@@ -170,11 +114,12 @@ fn taken(keeper: Keeper) -> Pressed
 fn not_taken(keeper: Keeper) -> Pressed
     ensures { result ≡ settled (bad no_key most_text) keeper }
 {
-    let answer = Answer::Refused(NO_KEY, MOST);
+    let answer = Err(Reason::NoKey.at(MOST));
     Pressed { keeper, answer }
 }
 
-// One key to a line keeper.
+// One key to a line keeper. "The next key starts an empty line": of a ready line it finds no byte.
+#[tactic(auto, using(crate::proofs::KeyLaws::key_over, crate::proofs::KeyLaws::key_cancel, crate::proofs::KeyLaws::key_back, crate::proofs::KeyLaws::key_full, crate::proofs::KeyLaws::key_held))]
 pub fn key(keeper: Keeper, key: u8) -> Pressed
     ensures { result ≡ after_key keeper key }
 {
@@ -187,16 +132,16 @@ pub fn key(keeper: Keeper, key: u8) -> Pressed
         after.count = 0;
         return taken(after);
     }
-    let from = start(is_ready(&after.bytes, count), count);
+    let ready = is_ready(&after.bytes, count);
+    let from = if ready { 0 } else { count };
     if key == BACKSPACE {
-        after.count = less_one(from);
+        after.count = from.saturating_sub(1);
         return taken(after);
     }
     if MOST <= from {
         return not_taken(after);
     }
-    let at = from as usize;
-    after.bytes[at] = key;
+    after.bytes[from as usize] = key;
     after.count = from + 1;
     taken(after)
 }

@@ -3,13 +3,22 @@
 
 ghost use Rattle.std.specs.Prelude.{◌≤◌, length};
 
+use rules::Refusal;
 use scan::Filled;
-use units::Word;
+use token_table::{Kind, Token};
+use units::{Fault, Word};
 
 // The descriptor of standard output.
 const STDOUT_FILENO: i32 = 1;
 // Room for the tokens and the contents of every line below.
 const ROOM: usize = 128;
+// What a table holds before it is filled.
+const NO_TOKEN: Token = Token {
+    kind: Kind::AmpAmpDash,
+    place: 0,
+    start: 0,
+    len: 0,
+};
 
 // Writes bytes to standard output.
 fn say(bytes: &[u8]) {
@@ -22,39 +31,31 @@ fn say_number(n: u64) {
 }
 
 // A token: its kind, its place and its content, as ` 10@0=A`.
-fn say_token(t: u64, contents: &[u8]) {
+fn say_token(t: Token, contents: &[u8]) {
     say(b" ");
-    say_number(token_table::kind(t) as u64);
+    say_number(t.kind as u64);
     say(b"@");
-    say_number(token_table::place(t) as u64);
-    let start = token_table::start(t, contents.len());
-    let end = token_table::end(t, contents.len());
-    if start < end {
-        if end <= contents.len() {
-            say(b"=");
-            say(&contents[start..end]);
-        }
+    say_number(u64::from(t.place));
+    let content = t.content(contents);
+    if !content.is_empty() {
+        say(b"=");
+        say(content);
     }
 }
 
 // The first n tokens of a table.
-fn say_tokens(toks: &[u64], n: usize, contents: &[u8]) {
-    let mut i = 0;
-    while i < toks.len() {
-        if n <= i {
-            return;
-        }
-        say_token(toks[i], contents);
-        i += 1;
+fn say_tokens(toks: &[Token], n: usize, contents: &[u8]) {
+    for t in toks.iter().take(n) {
+        say_token(*t, contents);
     }
 }
 
 // A refusal, as ` 5 at 0`.
-fn say_refusal(number: u8, place: usize) {
+fn say_refusal(refusal: Refusal) {
     say(b" ");
-    say_number(number as u64);
+    say_number(u64::from(refusal.reason.number()));
     say(b" at ");
-    say_number(place as u64);
+    say_number(u64::from(refusal.place));
 }
 
 // A text, and what the scan makes of it.
@@ -71,12 +72,11 @@ fn text(line: &[u8]) {
 fn tokens_of(line: &[u8])
     requires { length line.now ≤ 128 }
 {
-    let classes = chars::table();
-    let mut toks = [0u64; 128];
-    let mut contents = [0u8; 128];
-    match scan::tokens(line, &classes, &mut toks, &mut contents) {
-        Filled::Done { tokens, bytes } => say_tokens(&toks, tokens, &contents),
-        Filled::Refused { no, place } => say_refusal(no, place),
+    let mut toks = [NO_TOKEN; ROOM];
+    let mut contents = [0u8; ROOM];
+    match scan::tokens(line, &mut toks, &mut contents) {
+        Ok(Filled { tokens, .. }) => say_tokens(&toks, tokens, &contents),
+        Err(refusal) => say_refusal(refusal),
     }
 }
 
@@ -102,25 +102,27 @@ fn word(spelling: &[u8], base: u8) {
     say(&[base]);
     say(b" ->");
     match units::read_word(spelling, base) {
-        Word::Numeral {
-            letter,
-            fraction,
-            value,
-        } => say_numeral(letter, fraction, value),
-        Word::Keyed { skip } => {
+        Ok(
+            Word::Numeral {
+                letter,
+                fraction,
+                value,
+            },
+        ) => say_numeral(letter, fraction, value),
+        Ok(Word::Keyed { skip }) => {
             say(b" keyed ");
             say_rest(spelling, skip);
         }
-        Word::Identifier => {
+        Ok(Word::Identifier) => {
             say(b" identifier ");
             say(spelling);
         }
-        Word::Symbolic => {
+        Ok(Word::Symbolic) => {
             say(b" symbolic ");
             say(spelling);
         }
-        Word::Unreadable => say(b" 12"),
-        Word::TooBig => say(b" 13"),
+        Err(Fault::Unreadable) => say(b" 12"),
+        Err(Fault::TooBig) => say(b" 13"),
     }
     say(b"\n");
 }

@@ -13,6 +13,8 @@ ghost use Rattle.list.specs.Filled.{list_of, filled, order_of, Unrolls, stays_at
 ghost use Rattle.list.specs.Odometer.{standing_in, arguments_in, Restarts, Begun, Odometer, Steps, Turns};
 
 use list_argument::Standing;
+use record_walk::Tag;
+use rules::{Answer, Reason};
 
 // Where in the three numbers of a place its value's start stands.
 const START: usize = 1;
@@ -45,7 +47,7 @@ fn stays(rec: &[u8], number: u16, from: u16) -> bool
     if 1 < number {
         return false;
     }
-    record_walk::tag_at(rec, from as usize) != record_walk::RANGE
+    record_walk::tag_at(rec, from as usize) != Tag::Range as u8
 }
 
 // The places whose values are not, moved to the row's front. Returns how many numbers these are.
@@ -164,7 +166,7 @@ fn put_length(out: &mut [u8], n: u32)
     requires { 7 ≤ length out.old }
     ensures { out.new ≡ over (length_bytes n) out.old }
 {
-    fields::put_header(out, record_walk::ORDER_LENGTH, CONTENT);
+    fields::put_header(out, Tag::OrderLength, CONTENT);
     record_walk::put_number(&mut out[record_walk::HEADER..], n);
 }
 
@@ -200,10 +202,9 @@ fn put_pieces(out: &mut [u8], rec: &[u8], row: &[u16], at: &mut [u32])
     let mut done = 0;
     loop {
         done += put_piece(&mut out[done..], rec, row, at);
-        if turn(rec, row, at) {
-            continue;
+        if !turn(rec, row, at) {
+            return;
         }
-        return;
     }
 }
 
@@ -239,27 +240,25 @@ fn list_len(rec: &[u8], row: &[u16]) -> usize
 }
 
 // Writes the list; 17 with the bytes needed if the buffer is too short.
-fn put_list(out: &mut [u8], rec: &[u8], row: &[u16], at: &mut [u32]) -> rules::Answer
+fn put_list(out: &mut [u8], rec: &[u8], row: &[u16], at: &mut [u32]) -> Answer
     requires { Unrolls rec.now row.now × (length at.old ≡ length row.now) }
     ensures { Promise (fitted out.old (ok (list_of rec.now))) out.old result out.new }
 {
     let need = list_len(rec, row);
     if out.len() < need {
-        return rules::Answer::Refused(rules::NO_ROOM, need as u32);
+        return Err(Reason::NoRoom.at(need as u32));
     }
     put_pieces(out, rec, row, at);
-    rules::Answer::Done(need as u32)
+    Ok(need as u32)
 }
 
 // The whole list of a record: 18 if the record is not well formed, 17 if the buffer is too short.
-pub fn list(rec: &[u8], out: &mut [u8]) -> rules::Answer
+pub fn list(rec: &[u8], out: &mut [u8]) -> Answer
     ensures { Lists rec.now out.old result out.new }
 {
     let mut row = [0u16; judge::ROW];
-    let judge::Judged::Good { places, total } = judge::judge(rec, &mut row) else {
-        return rules::Answer::Refused(rules::NOT_WELL_FORMED, 0);
-    };
-    let told = judge::PER_PLACE * places;
+    let judged = judge::judge(rec, &mut row).ok_or(Reason::NotWellFormed.at(0))?;
+    let told = judge::PER_PLACE * judged.places;
     let body = &rec[record_head::HEAD..];
     let moves = moving(body, &mut row[..told]);
     let mut standings = [0u32; judge::ROW];

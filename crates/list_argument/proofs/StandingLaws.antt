@@ -146,20 +146,9 @@ none_range = refl
 
 -- ---- whether a range goes on
 
--- as it is asked without a sum, which might not fit
-up_to : (t i up : ℕ) → t ≤ up → leb i (up - t) ≡ leb (t + i) up
-up_to t i up h =
-    by_bool (leb (t + i) up) (λ y. le-leb i (up - t) (omega (arith, leb-true (t + i) up y)) ∙ sym y) (λ y. lt-leb i (up - t) (omega (arith, leb-false (t + i) up y)) ∙ sym y)
-
-module _ (x : List ℕ) (t : ℕ) {r : Bool} (e : r ≡ is_range x) where
-  pub on_range : r ≡ true → {i up : ℕ} → up ≡ num4 x upper_at → i ≡ num4 x increment_at → t ≤ up → leb i (up - t) ≡ goes_on x t
-  on_range h eu ei k = rw (← e, h, ← eu, ← ei) (up_to t _ _ k)
-
-  pub past_upper : r ≡ true → {up : ℕ} → up ≡ num4 x upper_at → up < t → false ≡ goes_on x t
-  past_upper h eu k = rw (← e, h) (sym (lt-leb (t + num4 x increment_at) (num4 x upper_at) (omega arith)))
-
-  pub no_range : r ≡ false → false ≡ goes_on x t
-  no_range h = rw (← e, h)
+-- a range has its own field and its last unit's
+pub range_room : (x : List ℕ) {r : Bool} → r ≡ is_range x → r ≡ true → 20 ≤ length x
+range_room x e h = range_long x (sym e ∙ h)
 
 -- what goes on is a range
 pub goes_long : (x : List ℕ) (t : ℕ) {g : Bool} → g ≡ goes_on x t → g ≡ true → increment_at + 4 ≤ length x

@@ -8,7 +8,7 @@ ghost use Rattle.record_walk.specs.Values.{Holds, Value};
 ghost use Rattle.list_argument.specs.Standings.{choices_of, Argument, IsFirst, IsNext, first_term, goes_on};
 
 // Where an argument stands: the element that names it, and which of a range's terms it is.
-#[derive(Clone, Copy)]
+#[derive(Clone, Copy, Debug, PartialEq, Eq)]
 pub struct Standing {
     pub start: usize,
     pub end: usize,
@@ -16,13 +16,15 @@ pub struct Standing {
 }
 
 // An element's first term: a range's is its lower end, and others have none.
+#[tactic(auto, unfolding(crate::specs::Standings::first_term), using(crate::proofs::StandingLaws::range_room))]
 fn first_term(element: &[u8]) -> u32
     ensures { result ≡ first_term element.now }
 {
     if order_argument::is_range(element) {
-        return record_walk::number_at(element, element.len() - record_walk::NUMBER);
+        record_walk::number_at(element, element.len() - record_walk::NUMBER)
+    } else {
+        0
     }
-    0
 }
 
 // The first argument of what stands from `from` to `to`.
@@ -34,7 +36,7 @@ pub fn first(rec: &[u8], from: usize, to: usize) -> Standing
         let end = record_walk::element_end(rec, from);
         return Standing {
             start: from,
-            end: end,
+            end,
             term: first_term(&rec[from..end]),
         };
     }
@@ -46,17 +48,16 @@ pub fn first(rec: &[u8], from: usize, to: usize) -> Standing
 }
 
 // Whether a range has a term behind this one: the increment leads not past its upper end.
+#[tactic(auto, using(crate::proofs::StandingLaws::range_room))]
 fn goes_on(element: &[u8], term: u32) -> bool
     ensures { result ≡ goes_on element.now term }
 {
-    if order_argument::is_range(element) {
-        let upper = record_walk::number_at(element, record_walk::UPPER);
-        if upper < term {
-            return false;
-        }
-        return record_walk::number_at(element, record_walk::INCREMENT) <= upper - term;
+    if !order_argument::is_range(element) {
+        return false;
     }
-    false
+    let upper = record_walk::number_at(element, record_walk::UPPER) as u64;
+    let increment = record_walk::number_at(element, record_walk::INCREMENT) as u64;
+    term as u64 + increment <= upper
 }
 
 // The argument behind this one: the range's next term, or the first of the next element.
@@ -64,14 +65,12 @@ pub fn next(rec: &[u8], standing: Standing, to: usize) -> Standing
     requires { Argument rec.now to standing }
     ensures { IsNext rec.now to standing result }
 {
-    let start = standing.start;
-    let end = standing.end;
-    let term = standing.term;
+    let Standing { start, end, term } = standing;
     let element = &rec[start..end];
     if goes_on(element, term) {
         return Standing {
-            start: start,
-            end: end,
+            start,
+            end,
             term: term + record_walk::number_at(element, record_walk::INCREMENT),
         };
     }

@@ -1,3 +1,2 @@
-pub mod SameLaws
 pub mod MarkLaws
 pub mod MetLaws

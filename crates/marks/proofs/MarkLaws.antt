@@ -1,12 +1,12 @@
 -- A key that was added is marked, and one that was marked stays so: where one of two numbers has a bit, so has their `or`.
-use Prim.Native.Nat.{ℕ, zero, suc, ◌*◌, ◌/◌, ◌%◌, ◌^◌, ◌<◌}
+use Prim.Native.Nat.{ℕ, zero, suc, ◌/◌, ◌%◌, ◌^◌, ◌<◌}
 use mathlib.Core.Path.{◌≡◌, refl, sym, ap, ◌∙◌}
-use mathlib.Core.Bool.{Bool, true, false, ◌&&◌}
-use native.Mathlib.Nat.{mod-lt, mod-eq_of_lt, zero-lt-suc, one-mul, mul-div_cancel}
+use mathlib.Core.Bool.{true}
+use native.Mathlib.Nat.{mod-lt, zero-lt-suc, one-mul, mul-div_cancel}
 use native.Mathlib.Omega.{arith}
 use borrow.Author.Tests.{eq-eqb, eqb-true}
 use lib.Bits.{bit_or, or_comm, or_shr, or_mod}
-use lib.Pow.{pow_pos, pow-lt}
+use lib.Pow.{pow_pos}
 use Rattle.laws.specs.Cases.{and_l, and_r}
 use Rattle.marks.specs.Marks.{has_bit, has_both, marked, with_bit, added}
 use Rattle.marks.specs.declared.Marks.{Marks}
@@ -56,16 +56,3 @@ added_keeps m j k h =
     let low = has_both m.first m.second j in
     let high = has_both m.third m.fourth (j / 4096) in
     rw (both_keeps m.first m.second j k (and_l low high h), both_keeps m.third m.fourth (j / 4096) (k / 4096) (and_r low high h))
-
--- ---- a bit as the code makes it
-
-pub shifted : (k : ℕ) → 1 * 2 ^ (k % 64) % 18446744073709551616 ≡ 2 ^ (k % 64)
-shifted k = rw (one-mul (2 ^ (k % 64))) (mod-eq_of_lt (pow-lt {i = k % 64} {j = 64} (mod-lt k (zero-lt-suc 63))))
-
--- ---- two tests as the code makes them
-
-pub both_yes : {t s : Bool} (x y : Bool) → t ≡ x → t ≡ true → s ≡ y → s ≡ x && y
-both_yes x y e h g = rw (sym e ∙ h) g
-
-pub both_no : {t : Bool} (x y : Bool) → t ≡ x → t ≡ false → t ≡ x && y
-both_no x y e h = rw (sym e ∙ h) h

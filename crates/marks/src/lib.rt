@@ -1,7 +1,7 @@
 // Words compared; and marks of the words that were met, so that most of those that were not need no comparison.
 #![tactic(auto)]
 
-ghost use Rattle.std.specs.Prelude.{◌≡◌, ◌-◌};
+ghost use Rattle.std.specs.Prelude.{◌≡◌};
 ghost use Rattle.laws.specs.Lists.{eq_l};
 ghost use Rattle.marks.specs.Marks.{mixed, key_of, no_marks, has_bit, has_both, marked, with_bit, added, added_if};
 
@@ -26,8 +26,8 @@ const BUT_ONE: u64 = 1045713;
 // the last.
 const LAST: u64 = 844793;
 
-// Marks of the words that were met: for each key a bit in each of the numbers.
-#[derive(Clone, Copy)]
+// Marks of the words that were met: for each key a bit in each of the numbers. By default none was met.
+#[derive(Clone, Copy, Debug, PartialEq, Eq, Default)]
 pub struct Marks {
     pub first: u64,
     pub second: u64,
@@ -35,21 +35,11 @@ pub struct Marks {
     pub fourth: u64,
 }
 
-// Are the words equal byte for byte? Lengths come before bytes.
+// Are the words equal byte for byte?
 pub fn same(a: &[u8], b: &[u8]) -> bool
     ensures { result ≡ eq_l a.now b.now }
 {
-    if a.len() != b.len() {
-        return false;
-    }
-    let mut i: usize = 0;
-    while i < a.len() {
-        if a[i] != b[i] {
-            return false;
-        }
-        i += 1;
-    }
-    true
+    a == b
 }
 
 // The key of a word of so many bytes, four of which are these, behind others whose key is `seed`.
@@ -62,17 +52,8 @@ fn mixed(seed: u32, len: usize, first: u8, middle: u8, second: u8, last: u8) -> 
     ((before + (len % LENGTHS) as u64 * LENGTH + ends + inner) % KEYS) as u32
 }
 
-// The index of the last byte but one; of a single byte its own.
-fn but_one(len: usize) -> usize
-    ensures { result ≡ len - 2 }
-{
-    if len < 2 {
-        return 0;
-    }
-    len - 2
-}
-
 // The key of a word behind others whose key is `seed`.
+#[tactic(auto, unfolding(crate::specs::Marks::key_of))]
 pub fn key(seed: u32, word: &[u8]) -> u32
     ensures { result ≡ key_of seed word.now }
 {
@@ -85,21 +66,9 @@ pub fn key(seed: u32, word: &[u8]) -> u32
         n,
         word[0],
         word[(n - 1) / 2],
-        word[but_one(n)],
+        word[n.saturating_sub(2)],
         word[n - 1],
     )
-}
-
-// No word was met.
-pub fn none() -> Marks
-    ensures { result ≡ no_marks }
-{
-    Marks {
-        first: 0,
-        second: 0,
-        third: 0,
-        fourth: 0,
-    }
 }
 
 // Has the number the bit that a part of a key says?
@@ -116,13 +85,6 @@ fn has_both(one: u64, other: u64, parts: u32) -> bool
     has_bit(one, parts) && has_bit(other, parts / BITS)
 }
 
-// May a word of this key have been met?
-pub fn has(marks: Marks, key: u32) -> bool
-    ensures { result ≡ marked marks key }
-{
-    has_both(marks.first, marks.second, key) && has_both(marks.third, marks.fourth, key / HALF)
-}
-
 // The number with the bit that a part of a key says.
 fn with_bit(number: u64, part: u32) -> u64
     ensures { result ≡ with_bit number part }
@@ -130,25 +92,40 @@ fn with_bit(number: u64, part: u32) -> u64
     number | (1u64 << (part % BITS))
 }
 
-// The marks with a key more.
-fn add(marks: Marks, key: u32) -> Marks
-    ensures { result ≡ added marks key }
-{
-    let rest = key / HALF;
-    Marks {
-        first: with_bit(marks.first, key),
-        second: with_bit(marks.second, key / BITS),
-        third: with_bit(marks.third, rest),
-        fourth: with_bit(marks.fourth, rest / BITS),
+impl Marks {
+    // No word was met.
+    pub fn none() -> Marks
+        ensures { result ≡ no_marks }
+    {
+        Marks::default()
     }
-}
 
-// The marks with a key more where it is wanted, and else as they are.
-pub fn add_if(wanted: bool, marks: Marks, key: u32) -> Marks
-    ensures { result ≡ added_if wanted marks key }
-{
-    if wanted {
-        return add(marks, key);
+    // May a word of this key have been met?
+    #[tactic(auto, unfolding(crate::specs::Marks::marked))]
+    pub fn has(self, key: u32) -> bool
+        ensures { result ≡ marked self key }
+    {
+        has_both(self.first, self.second, key) && has_both(self.third, self.fourth, key / HALF)
     }
-    marks
+
+    // The marks with a key more.
+    #[tactic(auto, unfolding(crate::specs::Marks::added))]
+    fn with(self, key: u32) -> Marks
+        ensures { result ≡ added self key }
+    {
+        let rest = key / HALF;
+        Marks {
+            first: with_bit(self.first, key),
+            second: with_bit(self.second, key / BITS),
+            third: with_bit(self.third, rest),
+            fourth: with_bit(self.fourth, rest / BITS),
+        }
+    }
+
+    // The marks with a key more where it is wanted, and else as they are.
+    pub fn with_if(self, wanted: bool, key: u32) -> Marks
+        ensures { result ≡ added_if wanted self key }
+    {
+        if wanted { self.with(key) } else { self }
+    }
 }

@@ -9,15 +9,15 @@ use lib.Seq.{get_or-take, get_or-drop}
 use Rattle.laws.specs.Lists.{is_nil}
 use Rattle.laws.specs.Over.{part}
 use Rattle.rules.specs.Characters.{between}
-use Rattle.rules.specs.declared.Answer.{Answer}
-use Rattle.rules.specs.declared.Answer.TheVariants.{Done, Refused}
+use Rattle.std.proofs.Common.{Option, Some, None, Ok, Err}
+use Rattle.rules.specs.Reasons.{refusal}
 use Rattle.rules.specs.Refusals.{bad, not_well_formed, no_such_place, wrong_argument}
 use Rattle.rules.specs.Units.{Base, keys, letter, base_at, Unit}
 use Rattle.rules.specs.Commands.{Element, Place, place, place_base, place_value, terms, sum, Command, command, all_places}
 use Rattle.rules.specs.Records.{bytes_of, place_fields, code_tag, block_tag, ends, head_size}
 use Rattle.rules.specs.WellFormed.{record_of}
 use Rattle.rules.specs.Positions.{place_of, argument_of, is_given, position_of, answer_of}
-use Rattle.rules.specs.Answers.{locating, answered, Locates}
+use Rattle.rules.specs.Answers.{Answer, locating, answered, Locates}
 use Rattle.rules.proofs.Counts.{terms_pos}
 use Rattle.rules.proofs.LocateCall.{Given, given_some, argument_back}
 use Rattle.rules.proofs.FieldLaws.{bytes_append}
@@ -29,7 +29,6 @@ use Rattle.record_walk.specs.Values.{PlaceAt, PlacesAt, end_before}
 use Rattle.record_walk.proofs.PlaceLaws.{place_holds, places_in, told_places, NthPlace, nth_place}
 use Rattle.judge.specs.Judged.{per_place, row_length, blocks_of, Judges}
 use Rattle.judge.specs.declared.Judged.{Judged}
-use Rattle.judge.specs.declared.Judged.TheVariants.{Good, Bad as Bad'}
 use Rattle.judge.proofs.ToldLaws.{judged, judged_cut, body_judged}
 use Rattle.member.specs.Seeking.{Sought, IsPosition, Ahead, IsBase, in_place, Numbered, InRow, IsAnswer}
 
@@ -91,8 +90,8 @@ row_ahead rec row i e r = record {
 
 -- where an argument that could stand there was found
 answer_found : (p : Place) (w : List ℕ) (l : List Unit) (u : Unit) (q : ℕ) → is_given (place_base p) w ≡ true → argument_of w ≡ ends l u → q ≡ answer_of (position_of (place_value p) l u)
-    → Done q ≡ answered (in_place p w)
-answer_found p w l u q y e f = rw (y, e) (ap Done f)
+    → Ok q ≡ answered (in_place p w)
+answer_found p w l u q y e f = rw (y, e) (ap Ok f)
 
 module _ (rec row w : List ℕ) (i base : ℕ) {at : ℕ} {g : Bool} (a : at ≡ end_before 0 row i) (b : IsBase rec at base) (e : g ≡ is_given (base_at base) w) where
   given_under : (p : Place) → Numbered rec row i p → g ≡ is_given (place_base p) w
@@ -113,14 +112,14 @@ module _ (rec row w : List ℕ) (i base : ℕ) {at : ℕ} {g : Bool} (a : at ≡
         bytes = given.bytes;
       }
 
-  pub row_found : {q : ℕ} → g ≡ true → IsPosition rec (get_or row (i + 1) 0) (get_or row (i + 2) 0) w q → IsAnswer rec row i w (Done q)
+  pub row_found : {q : ℕ} → g ≡ true → IsPosition rec (get_or row (i + 1) 0) (get_or row (i + 2) 0) w q → IsAnswer rec row i w (Ok q)
   row_found {q} y found p t =
       let yes : is_given (place_base p) w ≡ true = sym (given_under p t) ∙ y in
       let given : Given (place_base p) w = given_some (place_base p) w yes in
       let units : argument_of w ≡ ends given.lead given.last = ap argument_of (sym given.bytes) ∙ argument_back given.lead given.last in
       answer_found p w given.lead given.last q yes units (found (place_value p) given.lead given.last (place_holds p t) given.bytes)
 
-  pub row_wrong : g ≡ false → IsAnswer rec row i w (Refused wrong_argument 0)
+  pub row_wrong : g ≡ false → IsAnswer rec row i w (Err (refusal wrong_argument 0))
   row_wrong y p t = let no : is_given (place_base p) w ≡ false = sym (given_under p t) ∙ y in rw no
 
 -- ---- the record
@@ -142,11 +141,14 @@ nth_is (command c bs) n = refl
 places_are : (c : Command) → all_places (blocks_of c) ≡ places_in c
 places_are (command c bs) = refl
 
-pub member_bad : (rec row w : List ℕ) (place' : ℕ) {r : Judged} → r ≡ Bad' → Judges (record_of rec) (replicate row_length 0) row r → Locates rec place' w (Refused not_well_formed 0)
+pub member_bad : (rec row w : List ℕ) (place' : ℕ) {r : Option Judged} → r ≡ None → Judges (record_of rec) (replicate row_length 0) row r → Locates rec place' w (Err (refusal not_well_formed 0))
 unfolding locating
 member_bad rec row w place' e j = let h : record_of rec ≡ bad not_well_formed 0 = subst (Judges (record_of rec) (replicate row_length 0) row) e j in rw h
 
-module _ (rec row w : List ℕ) (m : ℕ) {r : Judged} {n t : ℕ} (e : r ≡ Good n t) (j : Judges (record_of rec) (replicate row_length 0) row r) where
+module _ (rec row w : List ℕ) (m : ℕ) {r : Option Judged} {x : Judged} (e : r ≡ Some x) (j : Judges (record_of rec) (replicate row_length 0) row r) where
+  abbrev n : ℕ
+  n = x.places
+
   abbrev tree : Command
   tree = (judged rec row e j).tree
 
@@ -154,7 +156,7 @@ module _ (rec row w : List ℕ) (m : ℕ) {r : Judged} {n t : ℕ} (e : r ≡ Go
   asked = place_of tree m
 
   -- no such place
-  pub member_none : n ≤ m → Locates rec m w (Refused no_such_place m)
+  pub member_none : n ≤ m → Locates rec m w (Err (refusal no_such_place m))
   unfolding locating
   member_none h =
       let few : length (places_in tree) ≤ m = omega (arith, (judged rec row e j).places, ap length (places_are tree)) in
@@ -178,7 +180,7 @@ module _ (rec row w : List ℕ) (m : ℕ) {r : Judged} {n t : ℕ} (e : r ≡ Go
     number_is = sym (get_or-take (per_place * n) row (3 * m) 0 (omega arith)) ∙ there.number ∙ arguments_are asked
 
     -- an omitted one
-    pub member_omitted : get_or row (3 * m) 0 ≡ 0 → Locates rec m w (Refused no_such_place m)
+    pub member_omitted : get_or row (3 * m) 0 ≡ 0 → Locates rec m w (Err (refusal no_such_place m))
     unfolding locating
     member_omitted z = rw ((judged rec row e j).is, no_argument (place_value asked) (sym number_is ∙ z))
 

@@ -1,14 +1,14 @@
 -- What the tests of an element and an argument say: each is one of the conditions under which the argument is a term, asked in turn.
 use mathlib.Core.Path.{◌≡◌, sym, ap, ◌∙◌}
-use mathlib.Core.Bool.{Bool, true, false, ◌&&◌}
+use mathlib.Core.Bool.{Bool, true, false}
 use mathlib.Core.List.{List}
-use Prim.Native.Nat.{ℕ, ◌+◌, ◌-◌, ◌/◌, ◌%◌, ◌≤◌, ◌<◌}
+use Prim.Native.Nat.{ℕ, ◌+◌, ◌-◌, ◌/◌, ◌%◌, ◌≤◌}
 use native.Mathlib.Nat.{div-le_self}
 use native.Mathlib.Omega.{arith}
-use borrow.Author.Tests.{eqb-true, eq-eqb, ne_eqb, le-leb, lt-leb}
-use lib.Dec.{leb, eqb}
+use borrow.Author.Tests.{eqb-true, eq-eqb, ne_eqb, le-leb}
+use lib.Dec.{eqb}
 use lib.ListN.{length, take, drop}
-use Rattle.laws.specs.Cases.{and_l, and_false}
+use Rattle.laws.specs.Cases.{and_l}
 use Rattle.laws.specs.Lists.{eq_l}
 use Rattle.laws.specs.Over.{part, part_from}
 use Rattle.rules.specs.Records.{num4}
@@ -39,22 +39,6 @@ module _ (x w : List ℕ) where
 -- ---- the step
 
 module _ (lo up inc v : ℕ) where
-  pub step_below : v < lo → 0 ≡ step_of lo up inc v
-  unfolding step_of
-  step_below h = rw (lt-leb lo v h)
-
-  pub step_above : up < v → 0 ≡ step_of lo up inc v
-  unfolding step_of
-  step_above h = rw (lt-leb v up h, and_false (leb lo v))
-
-  pub step_none : inc ≡ 0 → 0 ≡ step_of lo up inc v
-  unfolding step_of
-  step_none h = rw (lt-leb 1 inc (omega arith), and_false (leb lo v && leb v up))
-
-  pub step_between : ((v - lo) % inc ≡ 0 → ⊥) → 0 ≡ step_of lo up inc v
-  unfolding step_of
-  step_between h = rw (ne_eqb ((v - lo) % inc) 0 h, and_false (leb lo v && leb v up && leb 1 inc))
-
   -- no more steps than the value
   pub step_few : (v - lo) / inc ≤ v
   step_few = omega (arith, div-le_self (v - lo) inc)

@@ -2,14 +2,13 @@
 use Rattle.std.specs.Prelude.{◌≡◌, Bool, true, ◌&&◌, List, ℕ, suc, ◌+◌, ◌-◌, ◌/◌, ◌%◌, ◌≤◌, leb, eqb, length, get_or, take, drop}
 use Rattle.laws.specs.Cases.{pick}
 use Rattle.laws.specs.Lists.{eq_l}
-use Rattle.rules.specs.declared.Answer.{Answer}
 use Rattle.rules.specs.Refusals.{Res, ok, ◌>>=◌, guard, wrong_argument}
 use Rattle.rules.specs.Units.{Base, letter, Unit}
 use Rattle.rules.specs.Commands.{Element, Place, place_base, place_value}
 use Rattle.rules.specs.Records.{num4}
 use Rattle.rules.specs.WellFormed.{wf_value}
 use Rattle.rules.specs.Positions.{unit_bytes, argument_of, is_given, position_of, answer_of, located}
-use Rattle.rules.specs.Answers.{answered}
+use Rattle.rules.specs.Answers.{Answer, answered}
 use Rattle.record_walk.specs.Values.{Holds, PlaceAt, end_before}
 use Rattle.order_argument.specs.Terms.{is_range, range_field, upper_at, increment_at, lower_at}
 

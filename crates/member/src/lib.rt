@@ -9,6 +9,9 @@ ghost use Rattle.record_walk.specs.Values.{end_before};
 ghost use Rattle.order_argument.specs.Terms.{is_range};
 ghost use Rattle.member.specs.Seeking.{alike, step_of, range_term, term_in, Sought, IsPosition, Ahead, IsBase, InRow, IsAnswer};
 
+use record_walk::Tag;
+use rules::{Answer, Reason};
+
 // Where in its three numbers a place's value begins.
 const START: usize = 1;
 
@@ -28,23 +31,15 @@ fn alike(range: &[u8], argument: &[u8]) -> bool
     }
     let end = range.len() - record_walk::NUMBER;
     let same = argument.len() - record_walk::NUMBER;
-    marks::same(&range[record_walk::RANGE_FIELD..end], &argument[..same])
+    range[record_walk::RANGE_FIELD..end] == argument[..same]
 }
 
 // 1 and the number of increments by which a value is above the lower end; 0 where it is outside the ends, or where that is no whole number.
+#[tactic(auto, unfolding(crate::specs::Seeking::step_of))]
 fn step(lower: u32, upper: u32, increment: u32, value: u32) -> usize
     ensures { result ≡ step_of lower upper increment value }
 {
-    if value < lower {
-        return 0;
-    }
-    if upper < value {
-        return 0;
-    }
-    if increment == 0 {
-        return 0;
-    }
-    if (value - lower) % increment != 0 {
+    if value < lower || upper < value || increment == 0 || (value - lower) % increment != 0 {
         return 0;
     }
     ((value - lower) / increment) as usize + 1
@@ -73,7 +68,7 @@ fn term(element: &[u8], argument: &[u8]) -> usize
     if order_argument::is_range(element) {
         return range_term(element, argument);
     }
-    if marks::same(&element[record_walk::HEADER..], argument) {
+    if &element[record_walk::HEADER..] == argument {
         return 1;
     }
     0
@@ -109,10 +104,9 @@ fn stands(argument: &[u8], base: u8) -> bool
         if left == 0 {
             return false;
         }
-        let end = judge_unit::unit_end(argument, at, base);
-        if end == 0 {
+        let Some(end) = judge_unit::unit_end(argument, at, base) else {
             return false;
-        }
+        };
         at = end;
         left -= 1;
     }
@@ -124,7 +118,7 @@ fn base(rec: &[u8], at: usize) -> u8
     requires { Ahead rec.now at }
     ensures { IsBase rec.now at result }
 {
-    let place = record_walk::run_end(rec, at, record_walk::CODE, record_walk::BLOCK);
+    let place = record_walk::run_end(rec, at, Tag::Code, Tag::Block);
     rec[place + record_walk::HEADER]
 }
 
@@ -140,32 +134,30 @@ fn end_before(row: &[u16], i: usize) -> usize
 }
 
 // The answer of the place whose numbers stand at i: 27 if the argument could not stand there.
-fn locate(rec: &[u8], row: &[u16], i: usize, argument: &[u8]) -> rules::Answer
+fn locate(rec: &[u8], row: &[u16], i: usize, argument: &[u8]) -> Answer
     requires { InRow rec.now row.now i }
     ensures { IsAnswer rec.now row.now i argument.now result }
 {
     let base = base(rec, end_before(row, i));
     if stands(argument, base) {
-        return rules::Answer::Done(position(rec, row[i + START], row[i + END], argument));
+        return Ok(position(rec, row[i + START], row[i + END], argument));
     }
-    rules::Answer::Refused(rules::WRONG_ARGUMENT, 0)
+    Err(Reason::WrongArgument.at(0))
 }
 
 // Where an argument stands in a record's place: 18 if the record is not well formed, 26 if it has no such place or that is omitted, 27 if the argument could not stand there.
-pub fn member(rec: &[u8], place: u32, argument: &[u8]) -> rules::Answer
+pub fn member(rec: &[u8], place: u32, argument: &[u8]) -> Answer
     ensures { Locates rec.now place argument.now result }
 {
     let mut row = [0u16; judge::ROW];
-    let judge::Judged::Good { places, total: _ } = judge::judge(rec, &mut row) else {
-        return rules::Answer::Refused(rules::NOT_WELL_FORMED, 0);
-    };
-    if places <= place as usize {
-        return rules::Answer::Refused(rules::NO_SUCH_PLACE, place);
+    let judged = judge::judge(rec, &mut row).ok_or(Reason::NotWellFormed.at(0))?;
+    if judged.places <= place as usize {
+        return Err(Reason::NoSuchPlace.at(place));
     }
     let i = judge::PER_PLACE * place as usize;
     if row[i] == 0 {
-        return rules::Answer::Refused(rules::NO_SUCH_PLACE, place);
+        return Err(Reason::NoSuchPlace.at(place));
     }
-    let told = judge::PER_PLACE * places;
+    let told = judge::PER_PLACE * judged.places;
     locate(&rec[record_head::HEAD..], &row[..told], i, argument)
 }

@@ -7,7 +7,7 @@ ghost use Rattle.rules.specs.Answers.{reading, printing, ordering, counting, lis
 ghost use Rattle.rules.specs.Keeping.{after_key};
 ghost use Rattle.mml.specs.Interface.{packed, Packs, PacksRow, PacksNumber, PacksKey, numbered};
 
-use rules::{Answer, Keeper, Pressed};
+use rules::{Answer, Keeper, Pressed, Refusal};
 
 // The answer's number is multiplied by this; the value or the place stands below it.
 const NUMBER: u64 = 4294967296;
@@ -94,86 +94,77 @@ fn pack(answer: Answer) -> u64
     ensures { result ≡ packed answer }
 {
     match answer {
-        Answer::Done(value) => value as u64,
-        Answer::Refused(number, place) => number as u64 * NUMBER + place as u64,
+        Ok(value) => u64::from(value),
+        Err(Refusal { reason, place }) => u64::from(reason.number()) * NUMBER + u64::from(place),
     }
 }
 
-// `mml_read` of include/mml.h.
-#[unsafe(no_mangle)]
-pub extern "C" fn mml_read(text: &[u8], bases: &[u8], out: &mut [u8]) -> u64
+// `mml_read` of include/mml.h, which `mml_c` exports.
+pub fn mml_read(text: &[u8], bases: &[u8], out: &mut [u8]) -> u64
     ensures { Packs (reading text.now bases.now out.old) out.old result out.new }
 {
     let reading = read(text, bases, out);
     pack(reading)
 }
 
-// `mml_print` of include/mml.h.
-#[unsafe(no_mangle)]
-pub extern "C" fn mml_print(rec: &[u8], out: &mut [u8]) -> u64
+// `mml_print` of include/mml.h, which `mml_c` exports.
+pub fn mml_print(rec: &[u8], out: &mut [u8]) -> u64
     ensures { Packs (printing rec.now out.old) out.old result out.new }
 {
     let printing = print(rec, out);
     pack(printing)
 }
 
-// `mml_order` of include/mml.h.
-#[unsafe(no_mangle)]
-pub extern "C" fn mml_order(rec: &[u8], k: u64, out: &mut [u8]) -> u64
+// `mml_order` of include/mml.h, which `mml_c` exports.
+pub fn mml_order(rec: &[u8], k: u64, out: &mut [u8]) -> u64
     ensures { Packs (ordering rec.now k out.old) out.old result out.new }
 {
     let ordering = order(rec, k, out);
     pack(ordering)
 }
 
-// `mml_count` of include/mml.h.
-#[unsafe(no_mangle)]
-pub extern "C" fn mml_count(rec: &[u8]) -> u64
+// `mml_count` of include/mml.h, which `mml_c` exports.
+pub fn mml_count(rec: &[u8]) -> u64
     ensures { PacksNumber (counting rec.now) result }
 {
     let counting = count(rec);
     pack(counting)
 }
 
-// `mml_list` of include/mml.h.
-#[unsafe(no_mangle)]
-pub extern "C" fn mml_list(rec: &[u8], out: &mut [u8]) -> u64
+// `mml_list` of include/mml.h, which `mml_c` exports.
+pub fn mml_list(rec: &[u8], out: &mut [u8]) -> u64
     ensures { Packs (listing rec.now out.old) out.old result out.new }
 {
     let listing = list(rec, out);
     pack(listing)
 }
 
-// `mml_member` of include/mml.h.
-#[unsafe(no_mangle)]
-pub extern "C" fn mml_member(rec: &[u8], place: u32, argument: &[u8]) -> u64
+// `mml_member` of include/mml.h, which `mml_c` exports.
+pub fn mml_member(rec: &[u8], place: u32, argument: &[u8]) -> u64
     ensures { PacksNumber (locating rec.now place argument.now) result }
 {
     let locating = member(rec, place, argument);
     pack(locating)
 }
 
-// `mml_read_row` of include/mml.h.
-#[unsafe(no_mangle)]
-pub extern "C" fn mml_read_row(text: &[u8], bases: &[u8], out: &mut [u8], row: &mut [u32]) -> u64
+// `mml_read_row` of include/mml.h, which `mml_c` exports.
+pub fn mml_read_row(text: &[u8], bases: &[u8], out: &mut [u8], row: &mut [u32]) -> u64
     ensures { PacksRow (reading_row text.now bases.now out.old row.old) out.old row.old result out.new row.new }
 {
     let reading_row = read_row(text, bases, out, row);
     pack(reading_row)
 }
 
-// `mml_order_row` of include/mml.h.
-#[unsafe(no_mangle)]
-pub extern "C" fn mml_order_row(rec: &[u8], k: u64, out: &mut [u8], row: &mut [u32]) -> u64
+// `mml_order_row` of include/mml.h, which `mml_c` exports.
+pub fn mml_order_row(rec: &[u8], k: u64, out: &mut [u8], row: &mut [u32]) -> u64
     ensures { PacksRow (ordering_row rec.now k out.old row.old) out.old row.old result out.new row.new }
 {
     let ordering_row = order_row(rec, k, out, row);
     pack(ordering_row)
 }
 
-// `mml_place` of include/mml.h.
-#[unsafe(no_mangle)]
-pub extern "C" fn mml_place(rec: &[u8], row: &[u32], number: u32) -> u64
+// `mml_place` of include/mml.h, which `mml_c` exports.
+pub fn mml_place(rec: &[u8], row: &[u32], number: u32) -> u64
     ensures { PacksNumber (map_r length (placing rec.now row.now number)) result }
 {
     let placing = place(rec, row, number);
@@ -194,16 +185,14 @@ fn number_key(keeper: Keeper, key: u8) -> Numbered
     let pressed = keeper::key(keeper, key);
     let answer = pressed.answer;
     let number = pack(answer);
-    let after = pressed.keeper;
     Numbered {
-        keeper: after,
+        keeper: pressed.keeper,
         answer: number,
     }
 }
 
-// `mml_key` of include/mml.h.
-#[unsafe(no_mangle)]
-pub extern "C" fn mml_key(keeper: &mut Keeper, key: u8) -> u64
+// `mml_key` of include/mml.h, which `mml_c` exports.
+pub fn mml_key(keeper: &mut Keeper, key: u8) -> u64
     ensures { PacksKey keeper.old key result keeper.new }
 {
     let was = *keeper;

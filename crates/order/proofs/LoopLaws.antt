@@ -8,12 +8,12 @@ use lib.Seq.{take_all}
 use Rattle.laws.specs.Over.{over, part, back as given, back_over, length_over, length_part}
 use Rattle.record_walk.proofs.RunLaws.{size_append}
 use Rattle.record_walk.specs.Runs.{Whole, bytes_in}
-use Rattle.order_argument.specs.Terms.{term_value, argument_bytes, IsArgument}
+use Rattle.order_argument.specs.Terms.{term_value, valued_bytes, argument_bytes, IsArgument}
 use Rattle.order_argument.specs.declared.Argument.{Argument}
 use Rattle.order_argument.proofs.TermLaws.{valued_short, units_bytes}
 use Rattle.order.specs.Reduced.{parts_bytes, reduce, reduced, Part, kept, placed, part_fields, parts_of, reduced_place, order_bytes}
 use Rattle.order.specs.Plans.{kept_mark, positions_in, Planned, Within, changed}
-use Rattle.order.proofs.ReduceLaws.{bytes_long, Reducing, reducing_none, reducing_turn, reducing_all}
+use Rattle.order.proofs.ReduceLaws.{bytes_long, Reducing, Turn, reducing_none, reducing_turn, reducing_all}
 use native.Mathlib.Nat.{le_refl}
 use lib.Dec.{ltb}
 use Rattle.laws.specs.Cases.{by_bool}
@@ -80,7 +80,7 @@ module _ {rec row : List ℕ} (f : Planned rec row) where
   pub whole_long : length whole ≡ head_size + length (reduced rec (positions_in row))
   whole_long = length-append (head_bytes 1) (reduced rec (positions_in row))
 
-  body_long : length rec ≤ most_body
+  pub body_long : length rec ≤ most_body
   body_long = omega (arith, body_size f.tree is_body.well, ap length is_body.bytes)
 
   -- the record's length fits a number of the machine
@@ -182,6 +182,55 @@ module _ {rec row : List ℕ} {at i len : ℕ} (v : Measuring rec row at i len) 
 
       pub measuring_room : get_or row i 0 < kept_mark → {m : ℕ} → m ≡ length (changed rec at (get_or row (i + 1) 0) a) → len + m ≤ length rec
       measuring_room k e = omega (arith, measuring_anew k e)
+
+-- ---- the length
+
+-- of the record with its head, where the values up to the i-th number are reduced
+pub record Sizing (rec row : List ℕ) (i len : ℕ) : Type 0 where
+  pub at : ℕ
+  pub done : ℕ
+  pub so : Measuring rec row at i done
+  pub is : len ≡ head_size + done + (length rec - at)
+
+pub sizing_none : (rec row : List ℕ) → Planned rec row → Sizing rec row 0 (head_size + length rec)
+sizing_none rec row f = record { at = 0; done = 0; so = measuring_none rec row f; is = omega arith }
+
+module _ {rec row : List ℕ} {i len : ℕ} (z : Sizing rec row i len) where
+  pub sizing_all : length row ≤ i → len ≡ length (order_bytes rec (positions_in row))
+  sizing_all h = omega (arith, z.is, measuring_all z.so h, length-append (head_bytes 1) (reduced rec (positions_in row)))
+
+  module _ (h : i < length row) where
+    turn : Turn rec row z.at i (get_or row i 0) (get_or row (i + 1) 0) (get_or row (i + 2) 0) z.so.done
+    turn = reducing_turn z.so.so h
+
+    pub sizing_value : Whole rec (get_or row (i + 1) 0)
+    sizing_value = turn.whole
+
+    pub sizing_order : get_or row (i + 1) 0 ≤ get_or row (i + 2) 0
+    sizing_order = turn.order
+
+    -- a value's bytes are some of those that are counted
+    pub sizing_cut : get_or row (i + 2) 0 - get_or row (i + 1) 0 ≤ len
+    sizing_cut = omega (arith, z.is, turn.behind, turn.inside)
+
+    pub sizing_same : kept_mark ≤ get_or row i 0 → Sizing rec row (i + 3) len
+    sizing_same k = record { at = z.at; done = z.done; so = measuring_same z.so h k; is = z.is }
+
+    module _ {a : Argument} (p : IsArgument rec (get_or row (i + 1) 0) (get_or row i 0) a) (k : get_or row i 0 < kept_mark) {m : ℕ}
+        (e : (v : ℕ) → m ≡ length (valued_bytes (bytes_in rec a.start a.end) v)) where
+      sizing_long : get_or row (i + 1) 0 - z.at + m ≡ length (changed rec z.at (get_or row (i + 1) 0) a)
+      sizing_long = changed_long rec z.at (get_or row (i + 1) 0) a (measuring_within z.so h p) (e (term_value (bytes_in rec a.start a.end) a.term))
+
+      pub sizing_anew : Sizing rec row (i + 3) (len - (get_or row (i + 2) 0 - get_or row (i + 1) 0) + m)
+      sizing_anew = record {
+        at = get_or row (i + 2) 0;
+        done = z.done + (get_or row (i + 1) 0 - z.at + m);
+        so = measuring_anew z.so h p k sizing_long;
+        is = omega (arith, z.is, turn.behind, turn.order, turn.inside);
+      }
+
+      pub sizing_room : len - (get_or row (i + 2) 0 - get_or row (i + 1) 0) + m ≤ head_size + length rec + length rec
+      sizing_room = omega (arith, sizing_anew)
 
 -- ---- written
 

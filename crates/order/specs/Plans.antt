@@ -1,11 +1,12 @@
 -- The row: three numbers for each place. The judge leaves in it how many arguments the place has, and where its value begins and ends behind the record's head.
 -- Where the number stood, order k puts what becomes of the value. In all of this the bytes are those behind the head.
-use Rattle.std.specs.Prelude.{◌≡◌, Bool, true, false, List, [], ◌∷◌, ◌++◌, map, ℕ, ◌+◌, ◌*◌, ◌/◌, ◌%◌, ◌≤◌, ◌<◌, eqb, ltb, length, take, drop}
+use Rattle.std.specs.Prelude.{◌≡◌, Bool, true, false, List, [], ◌∷◌, ◌++◌, map, ℕ, ◌+◌, ◌*◌, ◌/◌, ◌%◌, ◌≤◌, ◌<◌, eqb, ltb, length, take, drop, Result, Ok, Err}
 use Rattle.laws.specs.Cases.{pick}
 use Rattle.laws.specs.Over.{part}
-use Rattle.rules.specs.declared.Answer.{Answer}
-use Rattle.rules.specs.Refusals.{ok, bad, most_arguments}
-use Rattle.rules.specs.Answers.{order_of, indexed, RowPromise}
+use Rattle.rules.specs.declared.Refusal.{Refusal}
+use Rattle.rules.specs.Reasons.{refusal}
+use Rattle.rules.specs.Refusals.{Res, ok, bad, most_arguments}
+use Rattle.rules.specs.Answers.{Answer, order_of, indexed, RowPromise}
 use Rattle.rules.specs.Orders.{count, order_at}
 use Rattle.rules.specs.Commands.{Element, single, range, Place, place, Command, place_count}
 use Rattle.rules.specs.Records.{field_bytes, place_fields, range_tag, head_size, encode}
@@ -18,8 +19,6 @@ use Rattle.judge.specs.Judged.{per_place, row_length}
 use Rattle.index.specs.Rows.{Recorded}
 use Rattle.order_argument.specs.Terms.{more_terms, argument_bytes}
 use Rattle.order_argument.specs.declared.Argument.{Argument}
-use Rattle.order.specs.declared.Found.{Found}
-use Rattle.order.specs.declared.Found.TheVariants.{Told, Refused as NotFound}
 use Rattle.order.specs.Reduced.{positions_of, Part, kept, placed, parts_of, Below, places_in, order_bytes}
 
 -- ---- what becomes of a value
@@ -96,9 +95,16 @@ pub record PlanIs (rec : List ℕ) (k : ℕ) (row : List ℕ) (n : ℕ) : Type 0
   pub three : n ≡ per_place * length (offsets (order_at tree k))
   pub plans : Plans (part rec head_size) k (take n row)
 
-abbrev pub IsPlan : List ℕ → ℕ → List ℕ → Found → Type 0
-IsPlan rec k row (Told n) = PlanIs rec k row n
-IsPlan rec k row (NotFound n p) = order_of rec k ≡ bad n p
+-- what is found is this refusal
+pub record Refuses (found : Res Command) (r : Refusal) : Type 0 where
+  pub number : ℕ
+  pub place : ℕ
+  pub is : found ≡ bad number place
+  pub says : r ≡ refusal number place
+
+abbrev pub IsPlan : List ℕ → ℕ → List ℕ → Result ℕ Refusal → Type 0
+IsPlan rec k row (Ok n) = PlanIs rec k row n
+IsPlan rec k row (Err r) = Refuses (order_of rec k) r
 
 -- ---- one place
 

@@ -10,6 +10,9 @@ ghost use Rattle.judge.specs.Judged.{row_length, Told};
 ghost use Rattle.order.specs.Reduced.{reduced, order_bytes};
 ghost use Rattle.order.specs.Plans.{positions_in, Planned, Plans, slot_for, goes_on, Within, changed, PutsOrder, IsOrder, PutsIndexed, IsPlan};
 
+use record_walk::Tag;
+use rules::{Answer, Reason, Refusal};
+
 // Where in its three numbers the value's start stands.
 const START: usize = 1;
 
@@ -22,13 +25,6 @@ const KEPT: u16 = rules::MOST_ARGUMENTS as u16;
 // The number of orders that an order has: itself.
 const SOLE: u32 = 1;
 
-// What order k is: so many numbers of the row tell the positions of its places. Or the refusal.
-#[derive(Clone, Copy)]
-enum Found {
-    Told(usize),
-    Refused { no: u8, place: u32 },
-}
-
 // What becomes of a value: its place's position; a value without a choice stays as it is, if it is no range.
 fn position(rec: &[u8], value: usize, number: u16, left: u32) -> u16
     ensures { result ≡ slot_for rec.now value number left }
@@ -36,7 +32,7 @@ fn position(rec: &[u8], value: usize, number: u16, left: u32) -> u16
     if 1 < number {
         return (left % number as u32) as u16;
     }
-    if record_walk::tag_at(rec, value) == record_walk::RANGE {
+    if record_walk::tag_at(rec, value) == Tag::Range as u8 {
         return 0;
     }
     KEPT
@@ -68,16 +64,6 @@ fn positions(rec: &[u8], row: &mut [u16], k: u32)
     }
 }
 
-// How many bytes a changed value takes, with those before it that are not yet counted.
-fn changed_len(rec: &[u8], at: usize, value: usize, argument: order_argument::Argument) -> usize
-    requires { Within rec.now at value argument }
-    ensures { result ≡ length (changed rec.now at value argument) }
-{
-    let start = argument.start;
-    let end = argument.end;
-    value - at + order_argument::argument_len(&rec[start..end])
-}
-
 // Writes a changed value, and before it in one copy the bytes that are not yet written.
 fn put_changed(
     out: &mut [u8],
@@ -97,30 +83,31 @@ fn put_changed(
     kept + order_argument::put_argument(&mut out[kept..], &rec[start..end], argument.term)
 }
 
-// The length of what stands behind the head, with each value reduced as the row says.
-fn measure(rec: &[u8], row: &[u16]) -> usize
+// The length of an order's record: an argument takes the place of each changed value.
+fn order_len(rec: &[u8], row: &[u16]) -> usize
     requires { Planned rec.now row.now }
-    ensures { result ≡ length (reduced rec.now (positions_in row.now)) }
+    ensures { result ≡ length (order_bytes rec.now (positions_in row.now)) }
 {
-    let mut at = 0;
-    let mut len = 0;
+    let mut len = record_head::HEAD + rec.len();
     let mut i = 0;
     while i < row.len() {
         let position = row[i];
         if position < KEPT {
             let value = row[i + START] as usize;
+            let next = row[i + END] as usize;
             let argument = order_argument::nth_argument(rec, value, position as u32);
-            len += changed_len(rec, at, value, argument);
-            at = row[i + END] as usize;
+            let start = argument.start;
+            let end = argument.end;
+            len = len - (next - value) + order_argument::argument_len(&rec[start..end]);
             i += judge::PER_PLACE;
         } else {
             i += judge::PER_PLACE;
         }
     }
-    len + (rec.len() - at)
+    len
 }
 
-// Writes it.
+// Writes what stands behind the head, with each value reduced as the row says.
 fn put_reduced(out: &mut [u8], rec: &[u8], row: &[u16]) -> usize
     requires { Planned rec.now row.now × (length (reduced rec.now (positions_in row.now)) ≤ length out.old) }
     ensures { (result ≡ length (reduced rec.now (positions_in row.now)))
@@ -145,15 +132,7 @@ fn put_reduced(out: &mut [u8], rec: &[u8], row: &[u16]) -> usize
     len + (rec.len() - at)
 }
 
-// The length of an order's record.
-fn whole_len(rec: &[u8], row: &[u16]) -> usize
-    requires { Planned rec.now row.now }
-    ensures { result ≡ length (order_bytes rec.now (positions_in row.now)) }
-{
-    record_head::HEAD + measure(rec, row)
-}
-
-// Writes it: its head, and behind it each value reduced as the row says.
+// Writes an order's record: its head, and behind it each value reduced as the row says.
 fn put_whole(out: &mut [u8], rec: &[u8], row: &[u16]) -> usize
     requires { Planned rec.now row.now × (length (order_bytes rec.now (positions_in row.now)) ≤ length out.old) }
     ensures { (result ≡ length (order_bytes rec.now (positions_in row.now)))
@@ -164,82 +143,66 @@ fn put_whole(out: &mut [u8], rec: &[u8], row: &[u16]) -> usize
 }
 
 // Writes that record; 17 with the bytes needed if the buffer is too short, which only a buffer shorter than the record can be, then 17 with the places if the slots are fewer.
-fn put_order(out: &mut [u8], rec: &[u8], row: &[u16], slots: usize) -> rules::Answer
+fn put_order(out: &mut [u8], rec: &[u8], row: &[u16], slots: usize) -> Answer
     requires { Planned rec.now row.now × (length row.now ≤ row_length) }
     ensures { PutsOrder rec.now row.now slots out.old result out.new }
 {
     if out.len() < record_head::HEAD + rec.len() {
-        let need = whole_len(rec, row);
+        let need = order_len(rec, row);
         if out.len() < need {
-            return rules::Answer::Refused(rules::NO_ROOM, need as u32);
+            return Err(Reason::NoRoom.at(need as u32));
         }
     }
     let places = row.len() / judge::PER_PLACE;
     if slots < places {
-        return rules::Answer::Refused(rules::NO_ROOM, places as u32);
+        return Err(Reason::NoRoom.at(places as u32));
     }
-    rules::Answer::Done(put_whole(out, rec, row) as u32)
+    Ok(put_whole(out, rec, row) as u32)
 }
 
 // The same, and the offsets of its places into a lent row, from the record that was written.
-fn put_indexed(out: &mut [u8], rec: &[u8], row: &[u16], offsets: &mut [u32]) -> rules::Answer
+fn put_indexed(out: &mut [u8], rec: &[u8], row: &[u16], offsets: &mut [u32]) -> Answer
     requires { Planned rec.now row.now × (length row.now ≤ row_length) × IsOrder rec.now row.now }
     ensures { PutsIndexed rec.now row.now out.old offsets.old result out.new offsets.new }
 {
-    match put_order(out, rec, row, offsets.len()) {
-        rules::Answer::Refused(no, place) => rules::Answer::Refused(no, place),
-        rules::Answer::Done(bytes) => {
-            index::fill(&out[..bytes as usize], offsets);
-            rules::Answer::Done(bytes)
-        }
-    }
+    let bytes = put_order(out, rec, row, offsets.len())?;
+    index::fill(&out[..bytes as usize], offsets);
+    Ok(bytes)
 }
 
 // Each place's position in order k, in the row's front: 18 if the record is not well formed, 19 with the count if k is not below it.
-fn plan(rec: &[u8], k: u64, row: &mut [u16]) -> Found
+fn plan(rec: &[u8], k: u64, row: &mut [u16]) -> Result<usize, Refusal>
     requires { row.old ≡ replicate row_length 0 }
     ensures { IsPlan rec.now k row.new result }
 {
-    let judge::Judged::Good { places, total } = judge::judge(rec, row) else {
-        return Found::Refused {
-            no: rules::NOT_WELL_FORMED,
-            place: 0,
-        };
-    };
-    if total as u64 <= k {
-        return Found::Refused {
-            no: rules::NO_SUCH_ORDER,
-            place: total,
-        };
+    let judged = judge::judge(rec, row).ok_or(Reason::NotWellFormed.at(0))?;
+    if judged.total as u64 <= k {
+        return Err(Reason::NoSuchOrder.at(judged.total));
     }
-    let told = judge::PER_PLACE * places;
+    let told = judge::PER_PLACE * judged.places;
     positions(&rec[record_head::HEAD..], &mut row[..told], k as u32);
-    Found::Told(told)
+    Ok(told)
 }
 
 // Order k of a record.
-pub fn order(rec: &[u8], k: u64, out: &mut [u8]) -> rules::Answer
+pub fn order(rec: &[u8], k: u64, out: &mut [u8]) -> Answer
     ensures { Orders rec.now k out.old result out.new }
 {
     let mut row = [0u16; judge::ROW];
-    match plan(rec, k, &mut row) {
-        Found::Refused { no, place } => rules::Answer::Refused(no, place),
-        Found::Told(told) => put_order(
-            out,
-            &rec[record_head::HEAD..],
-            &row[..told],
-            rules::MOST_PLACES,
-        ),
-    }
+    let told = plan(rec, k, &mut row)?;
+    put_order(
+        out,
+        &rec[record_head::HEAD..],
+        &row[..told],
+        rules::MOST_PLACES,
+    )
 }
 
 // Order k of a record, and the offsets of its places into a lent row.
-pub fn order_row(rec: &[u8], k: u64, out: &mut [u8], offsets: &mut [u32]) -> rules::Answer
+pub fn order_row(rec: &[u8], k: u64, out: &mut [u8], offsets: &mut [u32]) -> Answer
     ensures { OrdersRow rec.now k out.old offsets.old result out.new offsets.new }
 {
     let mut row = [0u16; judge::ROW];
-    match plan(rec, k, &mut row) {
-        Found::Refused { no, place } => rules::Answer::Refused(no, place),
-        Found::Told(told) => put_indexed(out, &rec[record_head::HEAD..], &row[..told], offsets),
-    }
+    let told = plan(rec, k, &mut row)?;
+    put_indexed(out, &rec[record_head::HEAD..], &row[..told], offsets)
 }

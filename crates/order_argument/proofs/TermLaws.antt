@@ -1,6 +1,6 @@
 -- The bytes of an element tell its terms, and so where the n-th argument of a value is: in a range's bytes upper end and increment stand at the front, the lower end at the back, and what stands
 -- between are the leading units.
-use mathlib.Core.Path.{◌≡◌, refl, sym, ap, ◌∙◌}
+use mathlib.Core.Path.{◌≡◌, refl, sym, ap, ◌∙◌, subst}
 use mathlib.Core.Bool.{Bool, true, false}
 use mathlib.Core.List.{List, [], ◌∷◌, ◌++◌, map, map-append, append_assoc, append-nil}
 use Prim.Native.Nat.{ℕ, ◌+◌, ◌-◌, ◌*◌, ◌/◌, ◌≤◌, ◌<◌}
@@ -280,5 +280,7 @@ module _ {rec : List ℕ} {at n start term end more : ℕ} (f : Finding rec at n
   pub finding_here : term ≤ more → IsArgument rec at n (record { start = start; end = end; term = term })
   finding_here h = f.same _ (nth_found rec start t e h)
 
-  pub finding_on : more < term → Finding rec at n end (term - more - 1)
-  finding_on h = record { whole = t.whole; from = omega (arith, f.from, t.from); same = λ a p. f.same a (nth_later_on rec start t e h p) }
+  pub finding_on : more < term → Finding rec at n end (term - (more + 1))
+  finding_on h =
+      let z : term - more - 1 ≡ term - (more + 1) = omega arith in
+      subst (Finding rec at n end) z (record { whole = t.whole; from = omega (arith, f.from, t.from); same = λ a p. f.same a (nth_later_on rec start t e h p) })

@@ -6,11 +6,13 @@ ghost use Rattle.laws.specs.Over.{over};
 ghost use Rattle.record_walk.specs.Runs.{Whole};
 ghost use Rattle.order_argument.specs.Terms.{is_range, more_terms, term_value, term_bytes, valued_bytes, argument_bytes, IsArgument};
 
+use record_walk::Tag;
+
 // A range without leading units: its own field and its lower end's.
 const SHORTEST_RANGE: usize = record_walk::RANGE_FIELD + record_walk::NUMERAL_FIELD;
 
-// Where in a value an argument is: the element that names it, and which of the element's terms it is, from 0.
-#[derive(Clone, Copy)]
+// Where in a value an argument is: the element that names it, and which of the element's terms it is, from 0. No one type with `list_argument::Standing`, whose `term` is a term's value.
+#[derive(Clone, Copy, Debug, PartialEq, Eq)]
 pub struct Argument {
     pub start: usize,
     pub end: usize,
@@ -18,45 +20,37 @@ pub struct Argument {
 }
 
 // Whether these bytes of an element are a range's: its field with upper end and increment, and a numeral as last unit.
+#[tactic(auto, unfolding(crate::specs::Terms::is_range))]
 pub fn is_range(element: &[u8]) -> bool
     ensures { result ≡ is_range element.now }
 {
-    if element.len() < SHORTEST_RANGE {
-        return false;
-    }
-    element[0] == record_walk::RANGE
+    SHORTEST_RANGE <= element.len() && element[0] == Tag::Range as u8
 }
 
 // How often the increment goes into what lies between the ends; most often it is 1, and that needs no division.
 fn steps(lower: u32, upper: u32, increment: u32) -> u32
     ensures { result ≡ (upper - lower) / increment }
 {
-    if upper < lower {
-        return 0;
+    let between = upper.saturating_sub(lower);
+    match increment {
+        0 => 0,
+        1 => between,
+        _ => between / increment,
     }
-    if increment == 1 {
-        return upper - lower;
-    }
-    if increment == 0 {
-        return 0;
-    }
-    (upper - lower) / increment
 }
 
 // How many terms an element has behind its first one.
+#[tactic(auto, unfolding(crate::specs::Terms::more_terms), using(crate::proofs::TermLaws::tested_long))]
 pub fn more_terms(element: &[u8]) -> u32
     ensures { result ≡ more_terms element.now }
 {
-    if is_range(element) {
-        let lower = record_walk::number_at(element, element.len() - record_walk::NUMBER);
-        let upper = record_walk::number_at(element, record_walk::UPPER);
-        return steps(
-            lower,
-            upper,
-            record_walk::number_at(element, record_walk::INCREMENT),
-        );
+    if !is_range(element) {
+        return 0;
     }
-    0
+    let lower = record_walk::number_at(element, element.len() - record_walk::NUMBER);
+    let upper = record_walk::number_at(element, record_walk::UPPER);
+    let increment = record_walk::number_at(element, record_walk::INCREMENT);
+    steps(lower, upper, increment)
 }
 
 // The argument at a position of the value that stands there: whole elements are passed over by their numbers of terms.
@@ -70,13 +64,9 @@ pub fn nth_argument(rec: &[u8], at: usize, position: u32) -> Argument
         let end = record_walk::element_end(rec, start);
         let more = more_terms(&rec[start..end]);
         if term <= more {
-            return Argument {
-                start: start,
-                end: end,
-                term: term,
-            };
+            return Argument { start, end, term };
         }
-        term = term - more - 1;
+        term -= more + 1;
         start = end;
     }
 }
@@ -86,12 +76,14 @@ pub fn argument_len(element: &[u8]) -> usize
     ensures { (v : ℕ) → result ≡ length (valued_bytes element.now v) }
 {
     if is_range(element) {
-        return element.len() - record_walk::RANGE_CONTENT;
+        element.len() - record_walk::RANGE_CONTENT
+    } else {
+        element.len()
     }
-    element.len()
 }
 
 // A range's term: the increment so often added to the lower end.
+#[tactic(auto, using(crate::proofs::TermLaws::range_long))]
 fn term_value(range: &[u8], term: u32) -> u32
     requires { (is_range range.now ≡ true) × (term ≤ more_terms range.now) }
     ensures { result ≡ term_value range.now term }
@@ -106,12 +98,14 @@ fn value_of(element: &[u8], term: u32) -> u32
     ensures { valued_bytes element.now result ≡ argument_bytes element.now term }
 {
     if is_range(element) {
-        return term_value(element, term);
+        term_value(element, term)
+    } else {
+        0
     }
-    0
 }
 
 // A range's term of that value as a single element: the leading units as they are, the last unit made new.
+#[tactic(auto, using(crate::proofs::TermLaws::range_long, crate::proofs::TermLaws::range_sizes))]
 fn put_term(out: &mut [u8], range: &[u8], value: u32) -> usize
     requires { (is_range range.now ≡ true) × (length (term_bytes range.now value) ≤ length out.old) }
     ensures { (result ≡ length (term_bytes range.now value))
@@ -119,7 +113,7 @@ fn put_term(out: &mut [u8], range: &[u8], value: u32) -> usize
 {
     let last = range.len() - record_walk::NUMERAL_FIELD;
     let letter = range[last + record_walk::LETTER];
-    let first = fields::put_field(out, record_walk::SINGLE, &range[..0]);
+    let first = fields::put_field(out, Tag::Single, b"");
     fields::put_bytes(&mut out[first..], &range[record_walk::RANGE_FIELD..last]);
     let unit = first + (last - record_walk::RANGE_FIELD);
     fields::put_numeral(&mut out[unit..], letter, 0, value);
@@ -145,6 +139,5 @@ pub fn put_argument(out: &mut [u8], element: &[u8], term: u32) -> usize
     ensures { (result ≡ length (argument_bytes element.now term))
         × (out.new ≡ over (argument_bytes element.now term) out.old) }
 {
-    let value = value_of(element, term);
-    put_valued(out, element, value)
+    put_valued(out, element, value_of(element, term))
 }

@@ -8,15 +8,16 @@ use native.Mathlib.Omega.{arith}
 use borrow.Author.Tests.{lt-leb}
 use lib.Dec.{leb}
 use lib.ListN.{length, get_or, take, drop}
-use Rattle.rules.specs.declared.Answer.{Answer}
-use Rattle.rules.specs.declared.Answer.TheVariants.{Done, Refused}
+use Rattle.std.proofs.Common.{Option, Some, None, Ok, Err}
+use Rattle.rules.specs.declared.Refusal.{Refusal}
+use Rattle.rules.specs.Reasons.{refusal}
 use Rattle.rules.specs.Refusals.{ok, not_well_formed, wrong_row, no_such_place}
 use Rattle.rules.specs.Commands.{Place, Command, command, all_places}
 use Rattle.rules.specs.Records.{encode}
 use Rattle.rules.specs.WellFormed.{record_of}
 use Rattle.rules.specs.Positions.{place_of}
 use Rattle.rules.specs.Indexes.{offsets, place_bytes, agreeing}
-use Rattle.rules.specs.Answers.{placing, Places, HandsBack}
+use Rattle.rules.specs.Answers.{Answer, placing, Places, HandsBack}
 use Rattle.rules.proofs.EncodeDecode.{IsRecord, record_is}
 use Rattle.rules.proofs.RecordBound.{record_bound}
 use Rattle.rules.proofs.ResultLaws.{by_res, ok≢bad}
@@ -24,19 +25,21 @@ use Rattle.rules.proofs.RowPoints.{StandsAt, offsets_many, stands_there}
 use Rattle.rules.proofs.RowCalls.{SlotRight, all_right, right_is, is_right_lem, no_record, past_places, handed_back, passed, PartFrom, part_of_record}
 use Rattle.judge.specs.Judged.{blocks_of, IsGood, Judges}
 use Rattle.judge.specs.declared.Judged.{Judged}
-use Rattle.judge.specs.declared.Judged.TheVariants.{Good, Bad}
 use Rattle.index.specs.Rows.{WellFormed, Agrees, HasPlace, EndsAt}
 
 -- ---- what the judge and the row say
 
-pub place_bad : (rec old new row : List ℕ) (m : ℕ) {r : Judged} → r ≡ Bad → Judges (record_of rec) old new r → Places rec row m (Refused not_well_formed 0)
+pub place_bad : (rec old new row : List ℕ) (m : ℕ) {r : Option Judged} → r ≡ None → Judges (record_of rec) old new r → Places rec row m (Err (refusal not_well_formed 0))
 place_bad rec old new row m e j = rw (no_record rec row m not_well_formed 0 (subst (Judges (record_of rec) old new) e j))
 
 slots_of : (c : Command) → length (all_places (blocks_of c)) ≡ length (offsets c)
 slots_of (command c bs) = sym (offsets_many c bs)
 
-module _ (rec old new : List ℕ) {r : Judged} {n t : ℕ} (e : r ≡ Good n t) (j : Judges (record_of rec) old new r) where
-  good : IsGood (record_of rec) old new n t
+module _ (rec old new : List ℕ) {r : Option Judged} {x : Judged} (e : r ≡ Some x) (j : Judges (record_of rec) old new r) where
+  abbrev n : ℕ
+  n = x.places
+
+  good : IsGood (record_of rec) old new n x.total
   good = subst (Judges (record_of rec) old new) e j
 
   abbrev tree : Command
@@ -57,7 +60,7 @@ module _ (rec old new : List ℕ) {r : Judged} {n t : ℕ} (e : r ≡ Good n t) 
     agreed = a tree good.is
 
     -- 28
-    pub place_wrong : k < n → Places rec row m (Refused wrong_row k)
+    pub place_wrong : k < n → Places rec row m (Err (refusal wrong_row k))
     unfolding placing
     place_wrong h =
         let w : leb (length (offsets tree)) (agreeing (offsets tree) row) ≡ false = lt-leb (length (offsets tree)) (agreeing (offsets tree) row) (omega (arith, agreed, slots_are)) in
@@ -72,7 +75,7 @@ module _ (rec old new : List ℕ) {r : Judged} {n t : ℕ} (e : r ≡ Good n t) 
       all_agreed = all_right (offsets tree) row slots_right
 
       -- 26
-      pub place_past : n ≤ m → Places rec row m (Refused no_such_place m)
+      pub place_past : n ≤ m → Places rec row m (Err (refusal no_such_place m))
       place_past l = rw (past_places rec row m tree good.is all_agreed (omega (arith, slots_are)))
 
       module _ (l : m < n) where
@@ -107,20 +110,20 @@ module _ (rec old new : List ℕ) {r : Judged} {n t : ℕ} (e : r ≡ Good n t) 
           pub place_stands : HasPlace rec s
           place_stands = record { p = asked; there = here }
 
-          module _ {x : ℕ} (f : EndsAt rec s x) where
-            end_is : x ≡ s + length (place_bytes tree m)
+          module _ {y : ℕ} (f : EndsAt rec s y) where
+            end_is : y ≡ s + length (place_bytes tree m)
             end_is = f asked here
 
-            pub end_behind : s ≤ x
+            pub end_behind : s ≤ y
             end_behind = omega (arith, end_is)
 
-            pub part_small : x - s < 4294967296
+            pub part_small : y - s < 4294967296
             part_small =
                 let r : IsRecord rec tree = record_is rec tree good.is in
                 omega (arith, end_is, part_there.inside, ap length r.bytes, record_bound tree r.well)
 
-            pub place_done : Places rec row m (Done (x - s))
-            place_done = let z : x - s ≡ length (place_bytes tree m) = omega (arith, end_is) in rw (placed, z)
+            pub place_done : Places rec row m (Ok (y - s))
+            place_done = let z : y - s ≡ length (place_bytes tree m) = omega (arith, end_is) in rw (placed, z)
 
 -- ---- the part of the record
 
@@ -148,16 +151,16 @@ handed rec row m len w y z =
     (λ n p h. ok≢bad (sym (no_record rec row m n p h) ∙ y))
 
 module _ (rec row : List ℕ) (m : ℕ) {a : Answer} (e : Places rec row m a) where
-  module _ {len : ℕ} (d : a ≡ Done len) where
+  module _ {len : ℕ} (d : a ≡ Ok len) where
     done_handed : Handed rec row m len
     done_handed =
         by_res (placing rec row m)
         (λ w y.
-        let z : Done len ≡ Done (length w) = sym d ∙ e ∙ rw y in
+        let z : ◌≡◌ {A = Answer} (Ok len) (Ok (length w)) = sym d ∙ e ∙ rw y in
         let q : len ≡ length w = cc in
         handed rec row m len w y (sym q))
         (λ n p y.
-        let z : Done len ≡ Refused n p = sym d ∙ e ∙ rw y in
+        let z : ◌≡◌ {A = Answer} (Ok len) (Err (refusal n p)) = sym d ∙ e ∙ rw y in
         let w : ◌≡◌ {A = ℕ} 0 1 = cc in absurd (omega arith))
 
     pub handed_slot : m < length row
@@ -169,7 +172,7 @@ module _ (rec row : List ℕ) (m : ℕ) {a : Answer} (e : Places rec row m a) wh
     pub handed_inside : {s : ℕ} → s ≡ get_or row m 0 → s + len ≤ length rec
     handed_inside q = omega (arith, done_handed.size, done_handed.from.inside)
 
-pub hands_part : (rec : Bor (List ℕ)) (row : List ℕ) (m : ℕ) {a : Answer} {len s : ℕ} → Places rec.now row m a → a ≡ Done len → s ≡ get_or row m 0 → {part : Bor (List ℕ)}
+pub hands_part : (rec : Bor (List ℕ)) (row : List ℕ) (m : ℕ) {a : Answer} {len s : ℕ} → Places rec.now row m a → a ≡ Ok len → s ≡ get_or row m 0 → {part : Bor (List ℕ)}
     → part.now ≡ take (s + len - s) (drop s rec.now) → part.ref_ptr.0 ≡ rec.ref_ptr.0 → part.ref_ptr.1 ≡ rec.ref_ptr.1 + s → HandsBack rec row m part
 hands_part rec row m {a} {len} {s} e d q holds within lies =
     let h : Handed rec.now row m len = done_handed rec.now row m e d in
@@ -180,11 +183,11 @@ hands_part rec row m {a} {len} {s} e d q holds within lies =
       lies = rw h.is (lies ∙ rw q);
     }
 
-pub hands_none : (rec : Bor (List ℕ)) (row : List ℕ) (m : ℕ) {a : Answer} {n p : ℕ} → Places rec.now row m a → a ≡ Refused n p → {part : Bor (List ℕ)} → part.now ≡ []
+pub hands_none : (rec : Bor (List ℕ)) (row : List ℕ) (m : ℕ) {a : Answer} {f : Refusal} → Places rec.now row m a → a ≡ Err f → {part : Bor (List ℕ)} → part.now ≡ []
     → part.ref_ptr.0 ≡ rec.ref_ptr.0 → part.ref_ptr.1 ≡ rec.ref_ptr.1 + 0 → HandsBack rec row m part
-hands_none rec row m {a} {n} {p} e d holds within lies =
+hands_none rec row m {a} {f} e d holds within lies =
     by_res (placing rec.now row m)
     (λ w y.
-    let z : Refused n p ≡ Done (length w) = sym d ∙ e ∙ rw y in
+    let z : ◌≡◌ {A = Answer} (Err f) (Ok (length w)) = sym d ∙ e ∙ rw y in
     let w : ◌≡◌ {A = ℕ} 0 1 = cc in absurd (omega arith))
     (λ k o y. record { holds = rw y holds; within = within; lies = rw y lies })

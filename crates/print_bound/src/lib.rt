@@ -7,7 +7,7 @@ ghost use Rattle.rules.specs.WellFormed.{well_formed_body};
 ghost use Rattle.record_walk.specs.Fields.{length_at};
 ghost use Rattle.print_bound.specs.Bounds.{TextWithin, longer_bound, stop_bound, any_bound, is_plain, number_bound, end_bound, other_at, Stands};
 
-use record_walk::{HEADER, LETTER_FIELD, NUMERAL, NUMERAL_FIELD, PLACE, RANGE, SINGLE, STRING};
+use record_walk::{HEADER, LETTER_FIELD, NUMERAL_FIELD, Tag};
 
 // The values below this have one decimal digit.
 const TEN: u32 = 10;
@@ -113,15 +113,18 @@ fn other_bound(rec: &[u8], at: usize) -> usize
     ensures { result ≡ other_at rec.now at }
 {
     let size = size_at(rec, at);
-    match rec[at] {
-        RANGE => end_bound(record_walk::number_at(rec, at + record_walk::UPPER))
-            + end_bound(record_walk::number_at(rec, at + record_walk::INCREMENT)),
-        STRING => size + (size - HEADER),
-        _ => size,
+    let tag = rec[at];
+    if tag == Tag::Range as u8 {
+        return end_bound(record_walk::number_at(rec, at + record_walk::UPPER))
+            + end_bound(record_walk::number_at(rec, at + record_walk::INCREMENT));
     }
+    if tag == Tag::String as u8 {
+        return size + (size - HEADER);
+    }
+    size
 }
 
-// At most so many bytes the text of a record has that has these bytes behind its head.
+// At most so many bytes the text of a record has that has these bytes behind its head. A `while`, since a field says how far the next one is.
 pub fn bound(rec: &[u8]) -> usize
     requires { well_formed_body rec.now ≡ true }
     ensures { TextWithin rec.now result }
@@ -131,7 +134,7 @@ pub fn bound(rec: &[u8]) -> usize
     let mut base: u8 = 0;
     while at < rec.len() {
         let tag = rec[at];
-        if tag == NUMERAL {
+        if tag == Tag::Numeral as u8 {
             sum += number_bound(
                 base,
                 rec[at + record_walk::LETTER],
@@ -139,9 +142,9 @@ pub fn bound(rec: &[u8]) -> usize
                 record_walk::number_at(rec, at + record_walk::VALUE),
             );
             at += NUMERAL_FIELD;
-        } else if tag == SINGLE {
+        } else if tag == Tag::Single as u8 {
             at += HEADER;
-        } else if tag == PLACE {
+        } else if tag == Tag::Place as u8 {
             sum += SEPARATOR;
             base = rec[at + HEADER];
             at += LETTER_FIELD;

@@ -1,14 +1,16 @@
 -- The places that are done and those that are left make the text of the record, block by block.
 use Prim.Native.Nat.{◌+◌, ◌-◌, ◌<◌, ◌≤◌, ℕ}
-use lib.ListN.{drop, length, length-append, length-drop}
+use lib.ListN.{drop, length, length-drop, take}
+use lib.Seq.{sets-eq, take_at}
 use mathlib.Core.Bool.{Bool, false, false≢true, true}
 use mathlib.Core.List.{List, [], ◌++◌, ◌∷◌, append_assoc, map}
 use mathlib.Core.Option.{Option, none, some}
-use mathlib.Core.Path.{◌∙◌, ◌≡◌, ap, refl, sym}
+use mathlib.Core.Path.{◌∙◌, ◌≡◌, ap, refl, subst, sym}
+use native.Mathlib.Nat.{zero-add}
 use native.Mathlib.Omega.{arith}
 use Rattle.laws.specs.Cases.{and_l, and_r}
 use Rattle.laws.specs.Lists.{all}
-use Rattle.laws.specs.Over.{back, back_over, length_over, over, part}
+use Rattle.laws.specs.Over.{over}
 use Rattle.rules.proofs.CommandBack.{c_blocks, c_code}
 use Rattle.rules.proofs.EncodeDecode.{body_is}
 use Rattle.rules.proofs.FieldLaws.{bytes_append, bytes_cons}
@@ -23,15 +25,15 @@ use Rattle.rules.specs.Refusals.{Res, bad, more_of_code, ok}
 use Rattle.rules.specs.Tokens.{Lex, colon, comma, dash, semi, sep}
 use Rattle.rules.specs.Units.{is_identifier}
 use Rattle.rules.specs.WellFormed.{is_ok, body_of, well_formed_body, wf_block, wf_place}
+use Rattle.print_unit.proofs.ChainLaws.{both_put, fits_first, fits_next}
+use Rattle.print_unit.specs.Ways.{Way, Fits, Puts, measured, written}
 use Rattle.print_value.proofs.ElementLaws.{render_append}
-use Rattle.print_value.proofs.UnitsLaws.{again, written_all}
-use Rattle.print_value.specs.Values.{most_length}
 use Rattle.print_value.specs.declared.Put.{Put}
 use Rattle.record_walk.proofs.RunLaws.{drop_behind, stands_inside}
 use Rattle.record_walk.specs.Fronts.{tag_of}
 use Rattle.print_text.proofs.PieceLaws.{piece_bytes}
 use Rattle.print_text.proofs.PlaceLaws.{pieces_short}
-use Rattle.print_text.specs.Places.{IsPieces, IsPlace, Lays, PiecesFit, PiecesLen, PlaceFits, PlaceLen, PutPieces, PutPlace, opening, piece_fields, pieces_text, place_text}
+use Rattle.print_text.specs.Places.{IsPieces, IsPlace, PiecesFit, PlaceFits, PutPieces, PutPlace, opening, piece_fields, pieces_text, place_text}
 use Rattle.print_text.specs.Texts.{text_of}
 
 -- the parts of a conjunction
@@ -143,9 +145,6 @@ next_place {rec} {at} {done} named (p ∷ ps) bs t e g h k =
     go_on none named p ps bs (t ∙ ap (λ (x : List ℕ). done ++ x) (places_step p ps bs)) (e ∙ bytes_cons place_fields p ps (blocks_bytes bs)) g h (omega arith)
 
 module _ {rec : List ℕ} {at : ℕ} {done : List ℕ} (g : Placing rec at done) where
-  done_room : length done ≤ length (text_of rec)
-  done_room = omega (arith, ap length g.total, length-append done (places_text g.ps ++ blocks_text g.bs))
-
   end_of : (ps : List Place) (bs : List Block) → drop at rec ≡ places_bytes ps ++ blocks_bytes bs → length rec ≤ at → places_text ps ++ blocks_text bs ≡ byte ";" ∷ []
   end_of [] [] e k = refl
   end_of [] (block kd ps ∷ bs) e k = absurd (omega (arith, length-drop at rec, ap length e))
@@ -204,115 +203,72 @@ start_of rec (ok (command (w ∷ ws) bs)) r h =
 start_at : (rec : List ℕ) → well_formed_body rec ≡ true → Start rec
 start_at rec h = start_of rec (body_of rec) refl h
 
--- ---- the loops
+-- ---- the loop
 
--- measured so far
-pub record Counting (rec : List ℕ) (k at : ℕ) : Type 0 where
-  pub done : List ℕ
-  pub placing : Placing rec at done
-  pub counted : length done ≡ k
-  pub room : k ≤ length (text_of rec)
-  pub few : length (text_of rec) ≤ 458752
+-- the code is put at `mid`, k characters; put so far is `done`
+pub record Counting (way : Way) (rec mid : List ℕ) (k : ℕ) (out : List ℕ) (d : Put) : Type 0 where
+  done : List ℕ
+  placing : Placing rec d.next done
+  put : (old : List ℕ) → Puts way (take k (text_of rec)) 0 old k mid → Puts way done 0 old d.end out
 
-module _ {rec : List ℕ} {k at : ℕ} (m : Counting rec k at) where
-  pub all_counted : length rec ≤ at → k + 1 ≡ length (text_of rec)
-  all_counted h = omega (arith, m.counted, ap length (all_done m.placing h), length-append m.done (byte ";" ∷ []))
+module _ {way : Way} {rec old mid out : List ℕ} {k : ℕ} {d : Put} (f : Fits way (text_of rec) 0 old) (c : Puts way (take k (text_of rec)) 0 old k mid)
+    (m : Counting way rec mid k out d) where
+  module _ (h : length rec ≤ d.next) where
+    pub last_fits : Fits way (byte ";" ∷ []) d.end out
+    last_fits = fits_next m.done (byte ";" ∷ []) (rw (all_done m.placing h) at f) (m.put old c)
 
-  module _ (h : at < length rec) where
-    next : NextPlace rec at m.done
-    next = let g = m.placing in next_place g.named g.ps g.bs g.total g.is g.places g.blocks h
+    pub all_put : {r : ℕ} {new : List ℕ} → Puts way (byte ";" ∷ []) d.end out r new → Puts way (text_of rec) 0 old r new
+    all_put x = rw (all_done m.placing h) (both_put m.done (byte ";" ∷ []) (m.put old c) x)
 
-    next_room : k + length (place_text next.o next.p) ≤ length (text_of rec)
-    next_room = omega (arith, m.counted, length-append m.done (place_text next.o next.p), done_room next.more)
+  module _ (h : d.next < length rec) where
+    pub place_fits : PlaceFits way rec d out
+    place_fits =
+        let g = m.placing in
+        let x = next_place g.named g.ps g.bs g.total g.is g.places g.blocks h in
+        let T : List ℕ = place_text x.o x.p in
+        let R : List ℕ = places_text x.more.ps ++ blocks_text x.more.bs in
+        record { o = x.o; named = x.named; p = x.p; rest = x.rest; has = x.has; fits = fits_next m.done T (fits_first (m.done ++ T) R (rw x.more.total at f)) (m.put old c) }
 
-    pub place_fits : {room : ℕ} → length (text_of rec) ≤ k + room → PlaceFits rec at room
-    place_fits f =
-        record { o = next.o; named = next.named; p = next.p; rest = next.rest; has = next.has; fits = omega (arith, next_room) }
+module _ {way : Way} {rec mid out new : List ℕ} {k : ℕ} {d r : Put} (m : Counting way rec mid k out d) (h : d.next < length rec) (l : PutPlace way rec d out r new) where
+  next : NextPlace rec d.next m.done
+  next = let g = m.placing in next_place g.named g.ps g.bs g.total g.is g.places g.blocks h
 
-    module _ {r : Put} (l : PlaceLen rec at r) where
-      next_laid : Lays (place_text next.o next.p) (at + length (bytes_of (opening next.o ++ place_fields next.p))) r
-      next_laid = l next.o next.named next.p next.rest next.has
+  pub place_on : length rec - r.next < length rec - d.next
+  place_on = let x = next in omega (arith, (l x.o x.named x.p x.rest x.has).behind, some_bytes x.o x.p)
 
-      pub place_on : length rec - r.next < length rec - at
-      place_on = omega (arith, next_laid.behind, some_bytes next.o next.p)
+  pub counting_more : Counting way rec mid k new r
+  counting_more =
+      let x = next in
+      let p = l x.o x.named x.p x.rest x.has in
+      record { done = m.done ++ place_text x.o x.p; placing = subst (λ (n : ℕ). Placing rec n (m.done ++ place_text x.o x.p)) (sym p.behind) x.more; put = λ old c. both_put m.done (place_text x.o x.p) (m.put old c) p.put }
 
-      pub counting_more : Counting rec (k + r.bytes) r.next
-      counting_more =
-          record {
-            done = m.done ++ place_text next.o next.p;
-            placing = rw next_laid.behind next.more;
-            counted = omega (arith, length-append m.done (place_text next.o next.p), m.counted, next_laid.bytes);
-            room = omega (arith, next_room, next_laid.bytes);
-            few = m.few;
-          }
-
-module _ (rec : List ℕ) (good : well_formed_body rec ≡ true) where
-  pub code_fits : {room : ℕ} → length (text_of rec) ≤ room → PiecesFit rec 0 code_tag room
-  code_fits h =
+module _ {way : Way} {rec : List ℕ} (good : well_formed_body rec ≡ true) where
+  pub code_fits : {old : List ℕ} → Fits way (text_of rec) 0 old → PiecesFit way rec (record { end = 0; next = 0 }) code_tag old
+  code_fits f =
       let g = start_at rec good in
-      record { w = g.w; ws = g.ws; rest = g.rest; has = g.has; fits = omega (arith, done_room g.placing) }
+      let x = g.placing in
+      record { w = g.w; ws = g.ws; rest = g.rest; has = g.has; fits = fits_first (pieces_text g.w g.ws) (places_text x.ps ++ blocks_text x.bs) (rw x.total at f) }
 
-  pub code_measured : PiecesFit rec 0 code_tag most_length
-  code_measured = code_fits (omega (arith, (start_at rec good).few))
+  module _ {old mid : List ℕ} {r : Put} (l : PutPieces way rec (record { end = 0; next = 0 }) code_tag old r mid) where
+    code_is : take r.end (text_of rec) ≡ pieces_text (start_at rec good).w (start_at rec good).ws
+    code_is =
+        let g = start_at rec good in
+        let x = g.placing in
+        rw x.total (take_at (pieces_text g.w g.ws) (places_text x.ps ++ blocks_text x.bs) r.end (omega (arith, (l g.w g.ws g.rest g.has).put.end)))
 
-  pub counting_code : {r : Put} → PiecesLen rec 0 code_tag r → Counting rec r.bytes r.next
-  counting_code l =
-      let g = start_at rec good in
-      let p = l g.w g.ws g.rest g.has in
-      record {
-        done = pieces_text g.w g.ws;
-        placing = rw p.behind g.placing;
-        counted = sym p.bytes;
-        room = omega (arith, p.bytes, done_room g.placing);
-        few = g.few;
-      }
+    pub code_put : Puts way (take r.end (text_of rec)) 0 old r.end mid
+    code_put = let g = start_at rec good in rw code_is (l g.w g.ws g.rest g.has).put
 
--- written so far, behind the code's k₀ characters, which were written before
-pub record Written (rec mid out : List ℕ) (k₀ k at : ℕ) : Type 0 where
-  pub counting : Counting rec k at
-  pub is : out ≡ over counting.done mid
-  pub past : k₀ ≤ k
-  pub wide : length (text_of rec) ≤ length mid
-  pub long : length out ≡ length mid
+    pub counting_code : Counting way rec mid r.end mid r
+    counting_code =
+        let g = start_at rec good in
+        record { done = pieces_text g.w g.ws; placing = subst (λ (n : ℕ). Placing rec n (pieces_text g.w g.ws)) (sym (l g.w g.ws g.rest g.has).behind) g.placing; put = λ old c. rw code_is at c }
 
-module _ (rec old : List ℕ) (good : well_formed_body rec ≡ true) {code : Put} {mid : List ℕ} (l : PutPieces rec 0 code_tag old code mid) where
-  pub written_code : length (text_of rec) ≤ length old → length mid ≡ length old → Written rec mid mid code.bytes code.bytes code.next
-  unfolding counting_code
-  written_code f k =
-      let g = start_at rec good in
-      record {
-        counting = counting_code rec good (λ w ws rest h. (l w ws rest h).0);
-        is = again (pieces_text g.w g.ws) old (l g.w g.ws g.rest g.has).1;
-        past = omega arith;
-        wide = omega arith;
-        long = refl;
-      }
+-- ---- what the public calls promise
 
-  -- `;` behind the last place
-  pub written_all_places : {out ys : List ℕ} {k at : ℕ} → Written rec mid out code.bytes k at → length rec ≤ at
-      → ys ≡ over (byte ";" ∷ []) (part out k) → back out k ys ≡ over (text_of rec) old
-  written_all_places m h y =
-      let g = start_at rec good in
-      let p = l g.w g.ws g.rest g.has in
-      let d = m.counting.done in
-      rw (all_done m.counting.placing h)
-      (back_over d (byte ";" ∷ []) old (written_all (pieces_text g.w g.ws) d old m.is p.1 (omega (arith, p.0.bytes, m.counting.counted, m.past))) m.counting.counted y)
+-- a text has 32 bits' room to be measured in
+pub text_measured : (rec old : List ℕ) → well_formed_body rec ≡ true → Fits measured (text_of rec) 0 old
+text_measured rec old good = record { room = omega (arith, (start_at rec good).few) }
 
-module _ {rec mid out : List ℕ} {k₀ k at : ℕ} (m : Written rec mid out k₀ k at) (h : at < length rec)
-    {r : Put} {ys : List ℕ} (l : PutPlace rec at (part out k) r ys) where
-  pub written_more : Written rec mid (back out k ys) k₀ (k + r.bytes) r.next
-  unfolding counting_more
-  written_more =
-      let x = next m.counting h in
-      let more = counting_more m.counting h (λ o named p rest i. (l o named p rest i).0) in
-      let is = back_over m.counting.done (place_text x.o x.p) mid m.is m.counting.counted (l x.o x.named x.p x.rest x.has).1 in
-      record {
-        counting = more;
-        is = is;
-        past = omega (arith, m.past);
-        wide = m.wide;
-        long = ap length is ∙ length_over more.done mid (omega (arith, more.counted, more.room, m.wide));
-      }
-
-  pub written_on : length rec - r.next < length rec - at
-  written_on = place_on m.counting h (λ o named p rest i. (l o named p rest i).0)
+pub text_written : (t old : List ℕ) {r : ℕ} {new : List ℕ} → length t ≤ length old → Puts written t 0 old r new → (r ≡ length t) × (new ≡ over t old)
+text_written t old h x = (omega (arith, x.end), x.is ∙ sets-eq t old 0 (omega arith) ∙ rw (zero-add (length t)) refl)

@@ -9,17 +9,19 @@ use mathlib.Core.Path.{◌∙◌, ◌≡◌, ap, refl, subst, sym}
 use native.Mathlib.Omega.{arith}
 use Rattle.laws.specs.Cases.{and_l, and_r}
 use Rattle.laws.specs.Lists.{all}
-use Rattle.laws.specs.Over.{back, back_over, length_over, over, part}
 use Rattle.rules.specs.Characters.{byte}
 use Rattle.rules.specs.Printing.{more_lex, render, word_lex}
 use Rattle.rules.specs.Records.{bytes_of, field, field_bytes}
 use Rattle.rules.specs.Refusals.{most_word}
 use Rattle.rules.specs.Tokens.{dash}
 use Rattle.rules.specs.WellFormed.{short}
+use Rattle.print_unit.proofs.ChainLaws.{both_put, fits_first, fits_next, nothing_put, three_third}
+use Rattle.print_unit.specs.Ways.{Way, Fits, Puts}
+use Rattle.print_value.specs.declared.Put.{Put}
 use Rattle.print_value.proofs.StandLaws.{Stands, stands}
 use Rattle.record_walk.specs.Fronts.{tag_of}
 use Rattle.record_walk.specs.Runs.{bytes_in}
-use Rattle.print_text.specs.Places.{IsPieces, PiecesFit, PiecesLen, PutPieces, piece_fields, pieces_text}
+use Rattle.print_text.specs.Places.{IsPieces, PiecesFit, PutPieces, piece_fields, pieces_text}
 
 -- the pieces behind the first, each behind a `-`
 abbrev pub more_pieces : List (List ℕ) → List ℕ
@@ -52,9 +54,6 @@ module _ {rec : List ℕ} {from t : ℕ} {w : List ℕ} {ws : List (List ℕ)} {
       let short-one = leb-true (length g.u) most_word (and_l (short g.u) (all short g.us) g.good) in
       stands rec at (field t g.u) (piece_bytes t g.us ++ rest) behind_piece (omega (arith, short-one)) g.inside
 
-  piece_room : length done + length g.u ≤ length (pieces_text w ws)
-  piece_room = omega (arith, ap length g.total, length-append done (g.u ++ more_pieces g.us), length-append g.u (more_pieces g.us))
-
   module _ {n : ℕ} (e : n ≡ at + (3 + get_or rec (at + 2) 0)) where
     piece_end : n ≡ at + 3 + length g.u
     piece_end = omega (arith, piece_stands.next)
@@ -66,10 +65,6 @@ module _ {rec : List ℕ} {from t : ℕ} {w : List ℕ} {ws : List (List ℕ)} {
     piece_is =
         let z : n - (at + 3) ≡ length g.u = omega (arith, piece_end) in
         rw (z, ← drop-drop 3 at rec, behind_piece) (take_at g.u (piece_bytes t g.us ++ rest) (length g.u) refl)
-
-    piece_over : (old : List ℕ) {xs ys : List ℕ} {k : ℕ} → xs ≡ over done old → length done ≡ k → ys ≡ over (bytes_in rec (at + 3) n) (part xs k)
-        → back xs k ys ≡ over (done ++ g.u) old
-    piece_over old {xs} {ys} {k} p q y = back_over done g.u old p q (y ∙ ap (λ (r : List ℕ). over r (part xs k)) piece_is)
 
     fields_end : n + length (piece_bytes t g.us) ≡ from + length (piece_bytes t (w ∷ ws))
     fields_end = omega (arith, piece_end, g.ends, length-append (field_bytes (field t g.u)) (piece_bytes t g.us))
@@ -105,83 +100,69 @@ module _ {rec : List ℕ} {from t : ℕ} {w : List ℕ} {ws : List (List ℕ)} {
               inside = omega (arith, piece_end, piece_stands.inside);
             }
 
--- ---- the loops
+-- ---- the loop
 
--- what is done has k characters
-abbrev pub Done : List ℕ → ℕ → ℕ → ℕ → ℕ → Type 0
-Done rec from t at k =
-    (w : List ℕ) (ws : List (List ℕ)) (rest : List ℕ) → IsPieces rec from t w ws rest
-    → (done : List ℕ) × Piecing rec from t w ws rest at done × (length done ≡ k)
+-- the walk, where what is put begins at `at` of the buffer `start`
+record Gone (way : Way) (rec : List ℕ) (from t : ℕ) (w : List ℕ) (ws : List (List ℕ)) (rest : List ℕ) (at : ℕ) (start : List ℕ) (piece end : ℕ) (out : List ℕ) : Type 0 where
+  done : List ℕ
+  going : Piecing rec from t w ws rest piece done
+  put : Puts way done at start end out
 
--- measured so far; the piece at `at` stands in the record, and there is room for it
-pub record Measuring (rec : List ℕ) (from t room at k : ℕ) : Type 0 where
-  pub is : Done rec from t at k
-  pub inside : at + (3 + get_or rec (at + 2) 0) ≤ length rec
-  pub fits : k + get_or rec (at + 2) 0 ≤ room
+abbrev Walk : Way → List ℕ → ℕ → ℕ → ℕ → List ℕ → ℕ → ℕ → List ℕ → Type 0
+Walk way rec from t at start piece end out =
+    (w : List ℕ) (ws : List (List ℕ)) (rest : List ℕ) → IsPieces rec from t w ws rest → Gone way rec from t w ws rest at start piece end out
 
-measuring : {rec : List ℕ} {from t room at k : ℕ} → PiecesFit rec from t room → Done rec from t at k → Measuring rec from t room at k
-measuring f d =
+-- put so far; the piece at `piece` stands in the record
+pub record Putting (way : Way) (rec : List ℕ) (from t at : ℕ) (start : List ℕ) (piece end : ℕ) (out : List ℕ) : Type 0 where
+  laid : Walk way rec from t at start piece end out
+  pub inside : piece + (3 + get_or rec (piece + 2) 0) ≤ length rec
+
+putting : {way : Way} {rec : List ℕ} {from : Put} {t piece end : ℕ} {old out : List ℕ} → PiecesFit way rec from t old
+    → Walk way rec from.next t from.end old piece end out → Putting way rec from.next t from.end old piece end out
+putting f d =
     let x = d f.w f.ws f.rest f.has in
-    let s = piece_stands f.has x.1 in
-    record { is = d; inside = omega (arith, s.next, s.inside); fits = omega (arith, s.next, piece_room f.has x.1, x.2, f.fits) }
+    let s = piece_stands f.has x.going in
+    record { laid = d; inside = omega (arith, s.next, s.inside) }
 
-pub measuring_none : {rec : List ℕ} {from t room : ℕ} → PiecesFit rec from t room → Measuring rec from t room from 0
+pub putting_none : {way : Way} {rec : List ℕ} {from : Put} {t : ℕ} {old : List ℕ} → PiecesFit way rec from t old
+    → Putting way rec from.next t from.end old from.next from.end old
 unfolding pieces_text
-measuring_none f =
-    measuring f (λ w ws rest h.
-    ([], record { u = w; us = ws; total = refl; is = h.is; good = h.good; ends = refl; inside = h.inside }, refl))
+putting_none {way} {from = from} {old = old} f =
+    putting f (λ w ws rest h. record {
+      done = [];
+      going = record { u = w; us = ws; total = refl; is = h.is; good = h.good; ends = refl; inside = h.inside };
+      put = nothing_put way old from.end;
+    })
 
-module _ {rec : List ℕ} {from t room at k : ℕ} (m : Measuring rec from t room at k) {n : ℕ} (e : n ≡ at + (3 + get_or rec (at + 2) 0))
-    {tag : ℕ} (q : tag ≡ tag_of (drop n rec)) where
-  pub pieces_laid : (tag ≡ t → ⊥) → PiecesLen rec from t (record { bytes = k + (n - at - 3); next = n })
-  pieces_laid s w ws rest h =
-      let x = m.is w ws rest h in
-      let z : tag_of (drop n rec) ≡ t → ⊥ = λ y. s (q ∙ y) in
-      record {
-        bytes = omega (arith, ap length (pieces_done h x.1 e z), length-append x.0 x.1.u, x.2, piece_end h x.1 e);
-        behind = pieces_next h x.1 e z;
-      }
+module _ {way : Way} {rec : List ℕ} {from : Put} {t piece end n : ℕ} {old out : List ℕ} (m : Putting way rec from.next t from.end old piece end out)
+    (e : n ≡ piece + (3 + get_or rec (piece + 2) 0)) where
+  pub piece_fits : PiecesFit way rec from t old → Fits way (bytes_in rec (piece + 3) n) end out
+  piece_fits f =
+      let x = m.laid f.w f.ws f.rest f.has in
+      let g = x.going in
+      rw (piece_is f.has g e) (fits_first g.u (more_pieces g.us) (fits_next x.done (g.u ++ more_pieces g.us) (rw g.total at f.fits) x.put))
 
-  pub measuring_more : tag ≡ t → PiecesFit rec from t room → Measuring rec from t room n (k + (n - at - 3) + 1)
-  measuring_more s f =
-      measuring f (λ w ws rest h.
-      let x = m.is w ws rest h in (
-        (x.0 ++ x.1.u) ++ (byte "-" ∷ []),
-        piecing_more h x.1 e (sym q ∙ s),
-        omega (arith, length-append (x.0 ++ x.1.u) (byte "-" ∷ []), length-append x.0 x.1.u, x.2, piece_end h x.1 e),
-      ))
+  module _ {p : ℕ} {mid : List ℕ} (y : Puts way (bytes_in rec (piece + 3) n) end out p mid) {tag : ℕ} (q : tag ≡ tag_of (drop n rec)) where
+    pub pieces_put : (tag ≡ t → ⊥) → PutPieces way rec from t old (record { end = p; next = n }) mid
+    pieces_put s w ws rest h =
+        let x = m.laid w ws rest h in
+        let g = x.going in
+        let z : tag_of (drop n rec) ≡ t → ⊥ = λ y. s (q ∙ y) in
+        record { put = rw (pieces_done h g e z) (both_put x.done g.u x.put (rw (piece_is h g e) at y)); behind = pieces_next h g e z }
 
--- written so far
-pub record Writing (rec : List ℕ) (from t : ℕ) (old out : List ℕ) (at k : ℕ) : Type 0 where
-  pub measured : Measuring rec from t (length old) at k
-  pub is : (w : List ℕ) (ws : List (List ℕ)) (rest : List ℕ) (h : IsPieces rec from t w ws rest) → out ≡ over (measured.is w ws rest h).0 old
-  pub long : length out ≡ length old
+    module _ (s : tag ≡ t) (f : PiecesFit way rec from t old) where
+      pub dash_fits : Fits way (byte "-" ∷ []) p mid
+      dash_fits =
+          let x = m.laid f.w f.ws f.rest f.has in
+          let g = x.going in
+          let k = piecing_more f.has g e (sym q ∙ s) in
+          let d : List ℕ = byte "-" ∷ [] in
+          three_third x.done g.u d (fits_first ((x.done ++ g.u) ++ d) (k.u ++ more_pieces k.us) (rw k.total at f.fits)) x.put (rw (piece_is f.has g e) at y)
 
-pub writing_none : {rec : List ℕ} {from t : ℕ} (old : List ℕ) → PiecesFit rec from t (length old) → Writing rec from t old old from 0
-unfolding measuring measuring_none
-writing_none old f = record { measured = measuring_none f; is = λ w ws rest h. refl; long = refl }
-
-module _ {rec : List ℕ} {from t at k : ℕ} {old out : List ℕ} (m : Writing rec from t old out at k)
-    {n : ℕ} (e : n ≡ at + (3 + get_or rec (at + 2) 0)) {ys : List ℕ} (y : ys ≡ over (bytes_in rec (at + 3) n) (part out k))
-    {tag : ℕ} (q : tag ≡ tag_of (drop n rec)) where
-  pub pieces_written : (tag ≡ t → ⊥) → PutPieces rec from t old (record { bytes = k + (n - at - 3); next = n }) (back out k ys)
-  pieces_written s w ws rest h =
-      let x = m.measured.is w ws rest h in
-      let z : tag_of (drop n rec) ≡ t → ⊥ = λ y. s (q ∙ y) in (
-        pieces_laid m.measured e q s w ws rest h,
-        rw (pieces_done h x.1 e z) (piece_over h x.1 e old (m.is w ws rest h) x.2 y),
-      )
-
-  pub writing_more : tag ≡ t → PiecesFit rec from t (length old) → {zs : List ℕ} → zs ≡ over (byte "-" ∷ []) (part (back out k ys) (k + (n - at - 3)))
-      → Writing rec from t old (back (back out k ys) (k + (n - at - 3)) zs) n (k + (n - at - 3) + 1)
-  unfolding measuring measuring_more
-  writing_more s f {zs} z =
-      let more = measuring_more m.measured e q s f in
-      let b : List ℕ = back (back out k ys) (k + (n - at - 3)) zs in
-      let is : (w : List ℕ) (ws : List (List ℕ)) (rest : List ℕ) (h : IsPieces rec from t w ws rest) → b ≡ over (more.is w ws rest h).0 old =
-      λ w ws rest h.
-      let x = m.measured.is w ws rest h in
-      back_over (x.0 ++ x.1.u) (byte "-" ∷ []) old (piece_over h x.1 e old (m.is w ws rest h) x.2 y)
-      (omega (arith, length-append x.0 x.1.u, x.2, piece_end h x.1 e)) z in
-      let d = more.is f.w f.ws f.rest f.has in
-      record { measured = more; is = is; long = ap length (is f.w f.ws f.rest f.has) ∙ length_over d.0 old (omega (arith, d.2, more.fits)) }
+      pub putting_more : {r : ℕ} {new : List ℕ} → Puts way (byte "-" ∷ []) p mid r new → Putting way rec from.next t from.end old n r new
+      putting_more z =
+          putting f (λ w ws rest h.
+          let x = m.laid w ws rest h in
+          let g = x.going in
+          let d : List ℕ = byte "-" ∷ [] in
+          record { done = (x.done ++ g.u) ++ d; going = piecing_more h g e (sym q ∙ s); put = both_put (x.done ++ g.u) d (both_put x.done g.u x.put (rw (piece_is h g e) at y)) z })

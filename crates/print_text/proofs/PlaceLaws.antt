@@ -9,7 +9,8 @@ use mathlib.Core.Path.{◌∙◌, ◌≡◌, ap, refl, sym}
 use native.Mathlib.Omega.{arith}
 use Rattle.laws.specs.Cases.{and_l, and_r}
 use Rattle.laws.specs.Lists.{all}
-use Rattle.laws.specs.Over.{back, back_over, over, part}
+use Rattle.print_unit.proofs.ChainLaws.{both_put, three_first, three_second, three_third}
+use Rattle.print_unit.specs.Ways.{Way, Fits, Puts}
 use Rattle.rules.proofs.DecodeEncode.{place_value_lem}
 use Rattle.rules.proofs.FieldLaws.{bytes_append}
 use Rattle.rules.specs.Commands.{Element, Place, is_piece, place}
@@ -25,7 +26,7 @@ use Rattle.record_walk.proofs.WalkLaws.{tag_there}
 use Rattle.record_walk.specs.Fronts.{tag_of}
 use Rattle.print_text.proofs.PieceLaws.{piece_bytes}
 use Rattle.print_value.specs.declared.Put.{Put}
-use Rattle.print_text.specs.Places.{ContentFits, ContentLen, IsContent, IsName, IsPlace, NameFits, NameLen, PlaceFits, PlaceLen, PutContent, PutName, PutPlace, opening, own_field, piece_fields, place_text, separator_at}
+use Rattle.print_text.specs.Places.{ContentFits, IsContent, IsName, IsPlace, NameFits, PlaceFits, PutContent, PutName, PutPlace, opening, own_field, piece_fields, place_text, separator_at}
 
 pub pieces_short : (g : List ℕ → Bool) (most : ℕ) (ws : List (List ℕ)) → wf_pieces g most ws ≡ true → all short ws ≡ true
 pieces_short g most [] h = absurd (false≢true h)
@@ -97,84 +98,54 @@ parts {rec} {at} {own} {rest} (some k) named (place b nm v) h q =
     own_parts rec at own (some k) named b nm v rest (rw z (sym (drop-drop 4 at rec) ∙ ap (drop 4) h.is)) h.good h.ends (omega arith)
     (omega (arith, i)) (omega arith) (rw t)
 
--- the lengths of the parts
-place_long : {rec : List ℕ} {at own : ℕ} {o : Option Bool} {p : Place} {rest : List ℕ} (x : Parts rec at own o p rest)
-    → length (place_text o p) ≡ 1 + length (render (name_lex x.nm)) + length (render (value_lex x.b x.v))
-place_long {rec} {at} x =
-    ap length x.is ∙ length-append ((separator_at (get_or rec at 0) ∷ []) ++ render (name_lex x.nm)) (render (value_lex x.b x.v))
-    ∙ omega arith
-
 -- ---- what its calls need
 
--- once its own field is found
-pub record FromOwn (rec : List ℕ) (own room : ℕ) : Type 0 where
-  pub inside : own + 4 ≤ length rec
-  pub some : 1 ≤ room
-  pub name : {n : ℕ} → room ≤ 1 + n → NameFits rec (own + 4) n
-
--- once its name is written or measured
-pub record FromName (rec : List ℕ) (own room : ℕ) (name : Put) : Type 0 where
-  pub short : 1 + name.bytes ≤ room
-  pub value : {n : ℕ} → room ≤ 1 + name.bytes + n → ContentFits rec name.next (get_or rec (own + 3) 0) n
-
-pub place_starts : {rec : List ℕ} {at room : ℕ} → PlaceFits rec at room → at < length rec
+pub place_starts : {way : Way} {rec : List ℕ} {from : Put} {old : List ℕ} → PlaceFits way rec from old → from.next < length rec
 place_starts f = (parts f.o f.named f.p f.has refl).starts
 
-module _ {rec : List ℕ} {at own room : ℕ} (f : PlaceFits rec at room) (q : own ≡ own_field (get_or rec at 0) at) where
-  fit_parts : Parts rec at own f.o f.p f.rest
-  fit_parts = parts f.o f.named f.p f.has q
+module _ {way : Way} {rec : List ℕ} {from : Put} {own : ℕ} {old : List ℕ} (q : own ≡ own_field (get_or rec from.next 0) from.next) where
+  module _ (f : PlaceFits way rec from old) where
+    fit_parts : Parts rec from.next own f.o f.p f.rest
+    fit_parts = parts f.o f.named f.p f.has q
 
-  pub from_own : FromOwn rec own room
-  from_own =
-      record {
-        inside = fit_parts.room;
-        some = omega (arith, place_long fit_parts, f.fits);
-        name = λ h. record {
-          nm = fit_parts.nm;
-          rest = value_bytes fit_parts.v ++ f.rest;
-          has = fit_parts.name;
-          fits = omega (arith, place_long fit_parts, f.fits);
-        };
-      }
+    pub own_inside : own + 4 ≤ length rec
+    own_inside = fit_parts.room
 
-  pub from_name : {name : Put} → NameLen rec (own + 4) name → FromName rec own room name
-  from_name l =
-      let n = l fit_parts.nm (value_bytes fit_parts.v ++ f.rest) fit_parts.name in
-      record {
-        short = omega (arith, place_long fit_parts, f.fits, n.bytes);
-        value = λ h. record {
-          b = fit_parts.b;
-          v = fit_parts.v;
-          rest = f.rest;
-          has = fit_parts.value n.behind;
-          fits = omega (arith, place_long fit_parts, f.fits, n.bytes);
-        };
-      }
+    pub mark_fits : {mark : ℕ} → mark ≡ separator_at (get_or rec from.next 0) → Fits way (mark ∷ []) from.end old
+    mark_fits {mark} m =
+        let x = fit_parts in
+        rw m (three_first (separator_at (get_or rec from.next 0) ∷ []) (render (name_lex x.nm)) (render (value_lex x.b x.v)) (rw x.is at f.fits))
 
-pub place_room : {rec : List ℕ} {at room : ℕ} {r : Put} → PlaceFits rec at room → PlaceLen rec at r → r.bytes ≤ room
-place_room f l = omega (arith, (l f.o f.named f.p f.rest f.has).bytes, f.fits)
+    module _ {mark k : ℕ} {xs : List ℕ} (m : mark ≡ separator_at (get_or rec from.next 0)) (u : Puts way (mark ∷ []) from.end old k xs) where
+      pub name_fits : NameFits way rec (record { end = k; next = own + 4 }) xs
+      name_fits =
+          let x = fit_parts in
+          record {
+            nm = x.nm;
+            rest = value_bytes x.v ++ f.rest;
+            has = x.name;
+            fits = three_second (mark ∷ []) (render (name_lex x.nm)) (render (value_lex x.b x.v)) (rw (x.is, ← m) at f.fits) u;
+          }
 
--- ---- what they answer is the place
+      pub content_fits : {name : Put} {ys : List ℕ} → PutName way rec (record { end = k; next = own + 4 }) xs name ys → ContentFits way rec name (get_or rec (own + 3) 0) ys
+      content_fits n =
+          let x = fit_parts in
+          let l = n x.nm (value_bytes x.v ++ f.rest) x.name in
+          record {
+            b = x.b;
+            v = x.v;
+            rest = f.rest;
+            has = x.value l.behind;
+            fits = three_third (mark ∷ []) (render (name_lex x.nm)) (render (value_lex x.b x.v)) (rw (x.is, ← m) at f.fits) u l.put;
+          }
 
-module _ {rec : List ℕ} {at own : ℕ} {name value : Put} (q : own ≡ own_field (get_or rec at 0) at) where
-  pub place_laid : NameLen rec (own + 4) name → ContentLen rec name.next (get_or rec (own + 3) 0) value
-      → PlaceLen rec at (record { bytes = 1 + name.bytes + value.bytes; next = value.next })
-  place_laid n w o named p rest h =
+  -- what they answer is the place
+  pub place_put : {mark k : ℕ} {name value : Put} {xs ys zs : List ℕ} → mark ≡ separator_at (get_or rec from.next 0) → Puts way (mark ∷ []) from.end old k xs
+      → PutName way rec (record { end = k; next = own + 4 }) xs name ys → PutContent way rec name (get_or rec (own + 3) 0) ys value zs → PutPlace way rec from old value zs
+  place_put {mark} m u n w o named p rest h =
       let x = parts o named p h q in
       let l = n x.nm (value_bytes x.v ++ rest) x.name in
       let r = w x.b x.v rest (x.value l.behind) in
-      record { bytes = omega (arith, place_long x, l.bytes, r.bytes); behind = omega (arith, r.behind, l.behind, x.ends) }
-
-  pub place_written : (old : List ℕ) {mark : ℕ} {xs ys zs : List ℕ} → mark ≡ separator_at (get_or rec at 0) → xs ≡ over (mark ∷ []) old
-      → PutName rec (own + 4) (part xs 1) name ys
-      → PutContent rec name.next (get_or rec (own + 3) 0) (part (back xs 1 ys) (1 + name.bytes)) value zs
-      → PutPlace rec at old (record { bytes = 1 + name.bytes + value.bytes; next = value.next }) (back (back xs 1 ys) (1 + name.bytes) zs)
-  place_written old {mark} m u n w o named p rest h =
-      let x = parts o named p h q in
-      let l = n x.nm (value_bytes x.v ++ rest) x.name in
-      let r = w x.b x.v rest (x.value l.0.behind) in
       let M : List ℕ = mark ∷ [] in
-      let N : List ℕ = render (name_lex x.nm) in (
-        place_laid (λ nm t k. (n nm t k).0) (λ b v t k. (w b v t k).0) o named p rest h,
-        rw (x.is, ← m) (back_over (M ++ N) (render (value_lex x.b x.v)) old (back_over M N old u refl l.1) (omega (arith, l.0.bytes)) r.1),
-      )
+      let N : List ℕ = render (name_lex x.nm) in
+      record { put = rw (x.is, ← m) (both_put (M ++ N) (render (value_lex x.b x.v)) (both_put M N u l.put) r.put); behind = omega (arith, r.behind, l.behind, x.ends) }

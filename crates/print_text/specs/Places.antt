@@ -3,7 +3,6 @@ use Rattle.std.specs.Prelude.{◌≡◌, Bool, true, cond, List, [], ◌∷◌, 
 use Rattle.std.proofs.Math.Option.{Option, none, some}
 use Rattle.laws.specs.Cases.{pick}
 use Rattle.laws.specs.Lists.{all}
-use Rattle.laws.specs.Over.{over}
 use Rattle.rules.specs.Characters.{byte}
 use Rattle.rules.specs.Tokens.{Sep, dash, comma, colon}
 use Rattle.rules.specs.Units.{Base, letter}
@@ -12,11 +11,12 @@ use Rattle.rules.specs.Records.{Field, field, block_tag, name_tag, element_field
 use Rattle.rules.specs.WellFormed.{short, wf_value, wf_place}
 use Rattle.rules.specs.Printing.{sep_text, render, joined_lex, word_lex, name_lex, value_lex, place_lex}
 use Rattle.record_walk.specs.Fronts.{tag_of}
+use Rattle.print_unit.specs.Ways.{Way, Fits, Puts}
 use Rattle.print_value.specs.declared.Put.{Put}
 
--- what a writer or a measure answers: so many characters, and the next field begins so many bytes behind
-pub record Lays (text : List ℕ) (next : ℕ) (r : Put) : Type 0 where
-  pub bytes : r.bytes ≡ length text
+-- what a writer promises: it puts a text behind `from.end` of the buffer, and the record goes on at `next`
+pub record Lays (way : Way) (text : List ℕ) (from : Put) (next : ℕ) (old : List ℕ) (r : Put) (new : List ℕ) : Type 0 where
+  pub put : Puts way text from.end old r.end new
   pub behind : r.next ≡ next
 
 -- ---- pieces of a code or name
@@ -35,21 +35,17 @@ pub record IsPieces (rec : List ℕ) (at t : ℕ) (w : List ℕ) (ws : List (Lis
   pub ends : tag_of rest ≡ t → ⊥
   pub inside : at ≤ length rec
 
-pub record PiecesFit (rec : List ℕ) (at t room : ℕ) : Type 0 where
+pub record PiecesFit (way : Way) (rec : List ℕ) (from : Put) (t : ℕ) (old : List ℕ) : Type 0 where
   pub w : List ℕ
   pub ws : List (List ℕ)
   pub rest : List ℕ
-  pub has : IsPieces rec at t w ws rest
-  pub fits : length (pieces_text w ws) ≤ room
+  pub has : IsPieces rec from.next t w ws rest
+  pub fits : Fits way (pieces_text w ws) from.end old
 
-abbrev pub PiecesLen : List ℕ → ℕ → ℕ → Put → Type 0
-PiecesLen rec at t r =
-    (w : List ℕ) (ws : List (List ℕ)) (rest : List ℕ) → IsPieces rec at t w ws rest → Lays (pieces_text w ws) (at + length (bytes_of (piece_fields t (w ∷ ws)))) r
-
-abbrev pub PutPieces : List ℕ → ℕ → ℕ → List ℕ → Put → List ℕ → Type 0
-PutPieces rec at t old r new =
-    (w : List ℕ) (ws : List (List ℕ)) (rest : List ℕ) → IsPieces rec at t w ws rest
-    → Lays (pieces_text w ws) (at + length (bytes_of (piece_fields t (w ∷ ws)))) r × (new ≡ over (pieces_text w ws) old)
+abbrev pub PutPieces : Way → List ℕ → Put → ℕ → List ℕ → Put → List ℕ → Type 0
+PutPieces way rec from t old r new =
+    (w : List ℕ) (ws : List (List ℕ)) (rest : List ℕ) → IsPieces rec from.next t w ws rest
+    → Lays way (pieces_text w ws) from (from.next + length (bytes_of (piece_fields t (w ∷ ws)))) old r new
 
 -- ---- a place's name, and its value
 
@@ -60,20 +56,16 @@ pub record IsName (rec : List ℕ) (at : ℕ) (nm : List (List ℕ)) (rest : Lis
   pub ends : tag_of rest ≡ name_tag → ⊥
   pub inside : at ≤ length rec
 
-pub record NameFits (rec : List ℕ) (at room : ℕ) : Type 0 where
+pub record NameFits (way : Way) (rec : List ℕ) (from : Put) (old : List ℕ) : Type 0 where
   pub nm : List (List ℕ)
   pub rest : List ℕ
-  pub has : IsName rec at nm rest
-  pub fits : length (render (name_lex nm)) ≤ room
+  pub has : IsName rec from.next nm rest
+  pub fits : Fits way (render (name_lex nm)) from.end old
 
-abbrev pub NameLen : List ℕ → ℕ → Put → Type 0
-NameLen rec at r =
-    (nm : List (List ℕ)) (rest : List ℕ) → IsName rec at nm rest → Lays (render (name_lex nm)) (at + length (bytes_of (piece_fields name_tag nm))) r
-
-abbrev pub PutName : List ℕ → ℕ → List ℕ → Put → List ℕ → Type 0
-PutName rec at old r new =
-    (nm : List (List ℕ)) (rest : List ℕ) → IsName rec at nm rest
-    → Lays (render (name_lex nm)) (at + length (bytes_of (piece_fields name_tag nm))) r × (new ≡ over (render (name_lex nm)) old)
+abbrev pub PutName : Way → List ℕ → Put → List ℕ → Put → List ℕ → Type 0
+PutName way rec from old r new =
+    (nm : List (List ℕ)) (rest : List ℕ) → IsName rec from.next nm rest
+    → Lays way (render (name_lex nm)) from (from.next + length (bytes_of (piece_fields name_tag nm))) old r new
 
 -- a value, or none: an omitted place
 pub record IsContent (rec : List ℕ) (at base : ℕ) (b : Base) (v : List Element) (rest : List ℕ) : Type 0 where
@@ -83,22 +75,17 @@ pub record IsContent (rec : List ℕ) (at base : ℕ) (b : Base) (v : List Eleme
   pub ends : tag_of rest < name_tag
   pub inside : at ≤ length rec
 
-pub record ContentFits (rec : List ℕ) (at base room : ℕ) : Type 0 where
+pub record ContentFits (way : Way) (rec : List ℕ) (from : Put) (base : ℕ) (old : List ℕ) : Type 0 where
   pub b : Base
   pub v : List Element
   pub rest : List ℕ
-  pub has : IsContent rec at base b v rest
-  pub fits : length (render (value_lex b v)) ≤ room
+  pub has : IsContent rec from.next base b v rest
+  pub fits : Fits way (render (value_lex b v)) from.end old
 
-abbrev pub ContentLen : List ℕ → ℕ → ℕ → Put → Type 0
-ContentLen rec at base r =
-    (b : Base) (v : List Element) (rest : List ℕ) → IsContent rec at base b v rest
-    → Lays (render (value_lex b v)) (at + length (bytes_of (many element_fields v))) r
-
-abbrev pub PutContent : List ℕ → ℕ → ℕ → List ℕ → Put → List ℕ → Type 0
-PutContent rec at base old r new =
-    (b : Base) (v : List Element) (rest : List ℕ) → IsContent rec at base b v rest
-    → Lays (render (value_lex b v)) (at + length (bytes_of (many element_fields v))) r × (new ≡ over (render (value_lex b v)) old)
+abbrev pub PutContent : Way → List ℕ → Put → ℕ → List ℕ → Put → List ℕ → Type 0
+PutContent way rec from base old r new =
+    (b : Base) (v : List Element) (rest : List ℕ) → IsContent rec from.next base b v rest
+    → Lays way (render (value_lex b v)) from (from.next + length (bytes_of (many element_fields v))) old r new
 
 -- ---- a place
 
@@ -133,20 +120,15 @@ pub record IsPlace (rec : List ℕ) (at : ℕ) (o : Option Bool) (named : Bool) 
   pub ends : tag_of rest < name_tag
   pub inside : at ≤ length rec
 
-pub record PlaceFits (rec : List ℕ) (at room : ℕ) : Type 0 where
+pub record PlaceFits (way : Way) (rec : List ℕ) (from : Put) (old : List ℕ) : Type 0 where
   pub o : Option Bool
   pub named : Bool
   pub p : Place
   pub rest : List ℕ
-  pub has : IsPlace rec at o named p rest
-  pub fits : length (place_text o p) ≤ room
+  pub has : IsPlace rec from.next o named p rest
+  pub fits : Fits way (place_text o p) from.end old
 
-abbrev pub PlaceLen : List ℕ → ℕ → Put → Type 0
-PlaceLen rec at r =
-    (o : Option Bool) (named : Bool) (p : Place) (rest : List ℕ) → IsPlace rec at o named p rest
-    → Lays (place_text o p) (at + length (bytes_of (opening o ++ place_fields p))) r
-
-abbrev pub PutPlace : List ℕ → ℕ → List ℕ → Put → List ℕ → Type 0
-PutPlace rec at old r new =
-    (o : Option Bool) (named : Bool) (p : Place) (rest : List ℕ) → IsPlace rec at o named p rest
-    → Lays (place_text o p) (at + length (bytes_of (opening o ++ place_fields p))) r × (new ≡ over (place_text o p) old)
+abbrev pub PutPlace : Way → List ℕ → Put → List ℕ → Put → List ℕ → Type 0
+PutPlace way rec from old r new =
+    (o : Option Bool) (named : Bool) (p : Place) (rest : List ℕ) → IsPlace rec from.next o named p rest
+    → Lays way (place_text o p) from (from.next + length (bytes_of (opening o ++ place_fields p))) old r new

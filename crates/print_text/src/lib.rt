@@ -1,106 +1,62 @@
-// The text of a record that is known to be well formed, from behind its head: code, blocks, places. Each writer is lent the buffer from its start position, and says every byte
-// of it; beside each stands the function that only measures.
+// The text of a record that is known to be well formed, from behind its head: code, blocks, places. Each writer is told from where on in the lent buffer and in
+// the record, and says where both go on; over `Measure` in place of `Page` it writes nothing.
 #![tactic(auto)]
 
 ghost use Rattle.std.specs.Prelude.{◌≡◌, true, ◌+◌, ◌^◌, ◌≤◌, ◌<◌, length};
 ghost use Rattle.laws.specs.Over.{over};
 ghost use Rattle.rules.specs.WellFormed.{well_formed_body};
-ghost use Rattle.print_value.specs.Values.{most_length};
+ghost use Rattle.print_unit.specs.Ways.{Fits, Puts};
 ghost use Rattle.print_text.specs.Texts.{text_of};
-ghost use Rattle.print_text.specs.Places.{PiecesFit, PiecesLen, PutPieces, NameFits, NameLen, PutName, ContentFits, ContentLen, PutContent, own_field, separator_at, PlaceFits, PlaceLen, PutPlace};
+ghost use Rattle.print_text.specs.Places.{PiecesFit, PutPieces, NameFits, PutName, ContentFits, PutContent, own_field, separator_at, PlaceFits, PutPlace};
 
+use print_unit::{Measure, Page, Sink};
 use print_value::Put;
+use record_walk::Tag;
 
-// Writes the pieces that stand there in fields of the tag, joined by `-`.
-fn put_pieces(out: &mut [u8], rec: &[u8], from: usize, tag: u8) -> Put
-    requires { PiecesFit rec.now from tag (length out.old) }
-    ensures { PutPieces rec.now from tag out.old result out.new }
+// Puts the pieces that stand there in fields of the tag, joined by `-`. A `loop`, since a field says how far the next one is; the tag as its byte, since
+// `tag as u8` of a `Tag` is a match of thirteen arms in the loop's proof, and the proof did not close.
+fn put_pieces<S: Sink>(out: &mut [u8], rec: &[u8], from: Put, tag: u8) -> Put
+    requires { PiecesFit S.way rec.now from tag out.old }
+    ensures { PutPieces S.way rec.now from tag out.old result out.new }
 {
-    let mut at = from;
-    let mut k: usize = 0;
+    let mut end = from.end;
+    let mut piece = from.next;
     loop {
-        let next = print_value::behind(rec, at);
-        fields::put_bytes(&mut out[k..], &rec[at + record_walk::HEADER..next]);
-        k += next - at - record_walk::HEADER;
-        at = next;
-        if record_walk::tag_at(rec, at) != tag {
-            return Put { bytes: k, next: at };
+        let next = print_value::behind(rec, piece);
+        let behind = S::put_bytes(out, end, &rec[piece + record_walk::HEADER..next]);
+        if record_walk::tag_at(rec, next) != tag {
+            return Put { end: behind, next };
         }
-        fields::put_u8(&mut out[k..], b'-');
-        k += 1;
+        end = S::put_u8(out, behind, b'-');
+        piece = next;
     }
 }
 
-// How many characters they have.
-fn pieces_len(rec: &[u8], from: usize, tag: u8) -> Put
-    requires { PiecesFit rec.now from tag most_length }
-    ensures { PiecesLen rec.now from tag result }
+// Puts the name that stands there and `=`, if one does.
+fn put_name<S: Sink>(out: &mut [u8], rec: &[u8], from: Put) -> Put
+    requires { NameFits S.way rec.now from out.old }
+    ensures { PutName S.way rec.now from out.old result out.new }
 {
-    let mut at = from;
-    let mut k: usize = 0;
-    loop {
-        let next = print_value::behind(rec, at);
-        k += next - at - record_walk::HEADER;
-        at = next;
-        if record_walk::tag_at(rec, at) != tag {
-            return Put { bytes: k, next: at };
-        }
-        k += 1;
+    if record_walk::tag_at(rec, from.next) != Tag::Name as u8 {
+        return from;
     }
-}
-
-// Writes the name that stands there and `=`, if one does.
-fn put_name(out: &mut [u8], rec: &[u8], at: usize) -> Put
-    requires { NameFits rec.now at (length out.old) }
-    ensures { PutName rec.now at out.old result out.new }
-{
-    if record_walk::tag_at(rec, at) != record_walk::NAME {
-        return Put { bytes: 0, next: at };
-    }
-    let name = put_pieces(out, rec, at, record_walk::NAME);
-    let k = name.bytes;
-    fields::put_u8(&mut out[k..], b'=');
+    let name = put_pieces::<S>(out, rec, from, Tag::Name as u8);
+    let end = S::put_u8(out, name.end, b'=');
     Put {
-        bytes: k + 1,
+        end,
         next: name.next,
     }
 }
 
-// How many characters they have.
-fn name_len(rec: &[u8], at: usize) -> Put
-    requires { NameFits rec.now at most_length }
-    ensures { NameLen rec.now at result }
+// Puts the value that stands there, if one does.
+fn put_content<S: Sink>(out: &mut [u8], rec: &[u8], from: Put, base: u8) -> Put
+    requires { ContentFits S.way rec.now from base out.old }
+    ensures { PutContent S.way rec.now from base out.old result out.new }
 {
-    if record_walk::tag_at(rec, at) != record_walk::NAME {
-        return Put { bytes: 0, next: at };
+    if record_walk::tag_at(rec, from.next) < Tag::Single as u8 {
+        return from;
     }
-    let name = pieces_len(rec, at, record_walk::NAME);
-    Put {
-        bytes: name.bytes + 1,
-        next: name.next,
-    }
-}
-
-// Writes the value that stands there, if one does.
-fn put_content(out: &mut [u8], rec: &[u8], at: usize, base: u8) -> Put
-    requires { ContentFits rec.now at base (length out.old) }
-    ensures { PutContent rec.now at base out.old result out.new }
-{
-    if record_walk::tag_at(rec, at) < record_walk::SINGLE {
-        return Put { bytes: 0, next: at };
-    }
-    print_value::put_value(out, rec, at, base)
-}
-
-// How many characters it has.
-fn content_len(rec: &[u8], at: usize, base: u8) -> Put
-    requires { ContentFits rec.now at base most_length }
-    ensures { ContentLen rec.now at base result }
-{
-    if record_walk::tag_at(rec, at) < record_walk::SINGLE {
-        return Put { bytes: 0, next: at };
-    }
-    print_value::value_len(rec, at, base)
+    print_value::put_value::<S>(out, from.end, rec, from.next, base)
 }
 
 // Where the field of the place stands that stands there, or that begins the block which does.
@@ -108,7 +64,7 @@ fn own_field(tag: u8, at: usize) -> usize
     requires { at + 4 < 2 ^ 64 }
     ensures { result ≡ own_field tag at }
 {
-    if tag == record_walk::BLOCK {
+    if tag == Tag::Block as u8 {
         return at + record_walk::LETTER_FIELD;
     }
     at
@@ -118,42 +74,38 @@ fn own_field(tag: u8, at: usize) -> usize
 fn separator(tag: u8) -> u8
     ensures { result ≡ separator_at tag }
 {
-    if tag == record_walk::BLOCK {
+    if tag == Tag::Block as u8 {
         return b':';
     }
     b','
 }
 
-// Writes the place that stands there, with the separator before it.
-fn put_place(out: &mut [u8], rec: &[u8], at: usize) -> Put
-    requires { PlaceFits rec.now at (length out.old) }
-    ensures { PutPlace rec.now at out.old result out.new }
+// Puts the place that stands there, with the separator before it.
+fn put_place<S: Sink>(out: &mut [u8], rec: &[u8], from: Put) -> Put
+    requires { PlaceFits S.way rec.now from out.old }
+    ensures { PutPlace S.way rec.now from out.old result out.new }
 {
-    let own = own_field(rec[at], at);
-    fields::put_u8(out, separator(rec[at]));
+    let own = own_field(rec[from.next], from.next);
+    let end = S::put_u8(out, from.end, separator(rec[from.next]));
     let base = rec[own + record_walk::HEADER];
-    let name = put_name(&mut out[1..], rec, own + record_walk::LETTER_FIELD);
-    let k = 1 + name.bytes;
-    let value = put_content(&mut out[k..], rec, name.next, base);
-    Put {
-        bytes: k + value.bytes,
-        next: value.next,
-    }
+    let name = Put {
+        end,
+        next: own + record_walk::LETTER_FIELD,
+    };
+    let value = put_name::<S>(out, rec, name);
+    put_content::<S>(out, rec, value, base)
 }
 
-// How many characters they have.
-fn place_len(rec: &[u8], at: usize) -> Put
-    requires { PlaceFits rec.now at most_length }
-    ensures { PlaceLen rec.now at result }
+// Puts the text of a record that has these bytes behind its head. A `while`, since a place says where the next one stands.
+fn put_all<S: Sink>(out: &mut [u8], rec: &[u8]) -> usize
+    requires { (well_formed_body rec.now ≡ true) × Fits S.way (text_of rec.now) 0 out.old }
+    ensures { Puts S.way (text_of rec.now) 0 out.old result out.new }
 {
-    let own = own_field(rec[at], at);
-    let base = rec[own + record_walk::HEADER];
-    let name = name_len(rec, own + record_walk::LETTER_FIELD);
-    let value = content_len(rec, name.next, base);
-    Put {
-        bytes: 1 + name.bytes + value.bytes,
-        next: value.next,
+    let mut put = put_pieces::<S>(out, rec, Put { end: 0, next: 0 }, Tag::Code as u8);
+    while put.next < rec.len() {
+        put = put_place::<S>(out, rec, put);
     }
+    S::put_u8(out, put.end, b';')
 }
 
 // Writes the text of a record that has these bytes behind its head. Returns how many characters.
@@ -161,16 +113,7 @@ pub fn put_text(out: &mut [u8], rec: &[u8]) -> usize
     requires { (well_formed_body rec.now ≡ true) × (length (text_of rec.now) ≤ length out.old) }
     ensures { (result ≡ length (text_of rec.now)) × (out.new ≡ over (text_of rec.now) out.old) }
 {
-    let code = put_pieces(out, rec, 0, record_walk::CODE);
-    let mut k = code.bytes;
-    let mut at = code.next;
-    while at < rec.len() {
-        let place = put_place(&mut out[k..], rec, at);
-        k += place.bytes;
-        at = place.next;
-    }
-    fields::put_u8(&mut out[k..], b';');
-    k + 1
+    put_all::<Page>(out, rec)
 }
 
 // How many characters it has.
@@ -178,13 +121,5 @@ pub fn text_len(rec: &[u8]) -> usize
     requires { well_formed_body rec.now ≡ true }
     ensures { result ≡ length (text_of rec.now) }
 {
-    let code = pieces_len(rec, 0, record_walk::CODE);
-    let mut k = code.bytes;
-    let mut at = code.next;
-    while at < rec.len() {
-        let place = place_len(rec, at);
-        k += place.bytes;
-        at = place.next;
-    }
-    k + 1
+    put_all::<Measure>(&mut [0u8; 0], rec)
 }

@@ -1,8 +1,7 @@
 -- The field tells what the unit is: the text of the bytes is the rules' text of the unit, and a decimal numeral below ten is its digit.
 use Prim.Native.Nat.{◌%◌, ◌*◌, ◌+◌, ◌/◌, ◌<◌, ◌^◌, ◌≤◌, suc, zero, ℕ}
 use borrow.Author.Tests.{eq-eqb, leb-true, lt-ltb, ne_eqb}
-use lib.ListN.{get_or, length, set}
-use lib.Seq.{sets-eq}
+use lib.ListN.{get_or, length}
 use mathlib.Core.Bool.{true}
 use mathlib.Core.List.{List, [], ◌∷◌}
 use mathlib.Core.Path.{◌∙◌, ◌≡◌, ap, refl, subst}
@@ -17,11 +16,11 @@ use Rattle.rules.specs.Units.{Base, Radix, Unit, identifier, keyed, letter, num,
 use Rattle.rules.specs.WellFormed.{ok_fraction, wf_unit}
 use Rattle.digits.proofs.DigitLaws.{whole_one}
 use Rattle.record_walk.proofs.FrontLaws.{Small}
-use Rattle.print_unit.proofs.ChainLaws.{Puts}
 use Rattle.print_unit.proofs.StringLaws.{string_text_lem}
 use Rattle.print_unit.proofs.TextLaws.{is_whole, keyed_text_lem, numeral_text_lem}
 use Rattle.print_unit.specs.Texts.{numeral_text, prefix_of}
-use Rattle.print_unit.specs.Units.{IsUnit, PutUnit, Sized, UnitFits, UnitLen, field_text, word_text}
+use Rattle.print_unit.specs.Ways.{Way, Fits, Puts}
+use Rattle.print_unit.specs.Units.{IsUnit, PutUnit, Sized, UnitFits, field_text, word_text}
 
 pub four : (v : ℕ) → v / 2 ^ 24 * 2 ^ 24 + v / 2 ^ 16 % 256 * 2 ^ 16 + v / 256 % 256 * 256 + v % 256 ≡ v
 four v = omega arith
@@ -59,16 +58,13 @@ pub sized_is : {p : List ℕ} {base : ℕ} {b : Base} {u : Unit} → IsUnit p ba
 sized_is {b = b} {u = u} h = rw h.is (sized_unit b u h.good)
 
 -- .. under a base that is known by its letter
-module _ {base base' : ℕ} (e : base ≡ base') where
-  pub any_fits : {p : List ℕ} {room : ℕ} → UnitFits p base room → Sized p × (length (field_text base' p) ≤ room)
+module _ {w : Way} {base base' at : ℕ} {old : List ℕ} (e : base ≡ base') where
+  pub any_fits : {p : List ℕ} → UnitFits w p base at old → Sized p × Fits w (field_text base' p) at old
   any_fits f = (sized_is f.has, rw (← e, text_is f.has) f.fits)
 
-  -- what is written in the code's words holds in the rules' words
-  pub put_is : (p old : List ℕ) {r : ℕ} {new : List ℕ} → Puts (field_text base' p) old r new → PutUnit p base old r new
-  put_is p old {r} {new} q b u h = subst (λ (t : List ℕ). Puts t old r new) (rw e at (text_is h)) q
-
-len_is : (p : List ℕ) (base : ℕ) {r : ℕ} → r ≡ length (field_text base p) → UnitLen p base r
-len_is p base {r} q b u h = subst (λ (t : List ℕ). r ≡ length t) (text_is h) q
+  -- what is put in the code's words holds in the rules' words
+  pub put_is : (p : List ℕ) {r : ℕ} {new : List ℕ} → Puts w (field_text base' p) at old r new → PutUnit w p base at old r new
+  put_is p {r} {new} q b u h = subst (λ (t : List ℕ). Puts w t at old r new) (rw e at (text_is h)) q
 
 -- ---- by the tag
 
@@ -80,12 +76,6 @@ module _ (b : ℕ) (p : List ℕ) where
   pub as_word : (get_or p 0 0 ≡ numeral_tag → ⊥) → field_text b p ≡ word_text b (get_or p 0 0) (part p 3)
   unfolding field_text
   as_word n = rw (ne_eqb (get_or p 0 0) numeral_tag n, part_from p 3)
-
-  pub numeral_measured : get_or p 0 0 ≡ numeral_tag → {v r : ℕ} → v ≡ num4 p 5 → r ≡ length (numeral_text b (get_or p 3 0) (get_or p 4 0) v) → UnitLen p b r
-  numeral_measured e q m = len_is p b (rw (as_numeral e q) m)
-
-  pub word_measured : (get_or p 0 0 ≡ numeral_tag → ⊥) → {r : ℕ} → r ≡ length (word_text b (get_or p 0 0) (part p 3)) → UnitLen p b r
-  word_measured n m = len_is p b (rw (as_word n) m)
 
 -- ---- one decimal digit under D
 
@@ -101,11 +91,11 @@ one_digit_lem p {v = v} s d e m q k h =
     let f : get_or p 4 0 ≡ 0 = omega (arith, s 2, s 3, s 4, s 5) in
     rw d (as_numeral (byte "D") p e k ∙ rw (l, f) (is_whole (byte "D") 0 v refl refl ∙ whole_one 10 v h ∙ ap (λ (n : ℕ). n ∷ []) (low_digit v h)))
 
--- .. so there is room for it, and it is what is written
-module _ {p : List ℕ} {base v n : ℕ} (s : Small p) (d : base ≡ byte "D") (e : get_or p 0 0 ≡ numeral_tag) (m : n ≡ num4 p 2) (q : n ≡ 105119744)
+-- .. so there is room for it, and it is what is put
+module _ {w : Way} {p : List ℕ} {base at v n : ℕ} {old : List ℕ} (s : Small p) (d : base ≡ byte "D") (e : get_or p 0 0 ≡ numeral_tag) (m : n ≡ num4 p 2) (q : n ≡ 105119744)
     (k : v ≡ num4 p 5) (h : v < 10) where
-  pub digit_room : {room : ℕ} → UnitFits p base room → 0 < room
-  digit_room f = omega (arith, (any_fits refl f).1, ap length (one_digit_lem p s d e m q k h))
+  pub digit_room : UnitFits w p base at old → Fits w ((48 + v) ∷ []) at old
+  digit_room f = rw (one_digit_lem p s d e m q k h) at (any_fits refl f).1
 
-  pub digit_put : (old : List ℕ) → UnitFits p base (length old) → PutUnit p base old 1 (set old 0 (48 + v))
-  digit_put old f = put_is refl p old (rw (one_digit_lem p s d e m q k h) (refl, sets-eq ((48 + v) ∷ []) old 0 (digit_room f)))
+  pub digit_put : {r : ℕ} {new : List ℕ} → Puts w ((48 + v) ∷ []) at old r new → PutUnit w p base at old r new
+  digit_put x = put_is refl p (rw (one_digit_lem p s d e m q k h) x)

@@ -1,3 +1,4 @@
+pub mod Ways
 pub mod Texts
 pub mod Strings
 pub mod Units

@@ -1,12 +1,12 @@
 -- A unit's text from its field's bytes, and what is promised of it in the rules' words.
 use Rattle.std.specs.Prelude.{◌≡◌, true, List, ℕ, ◌+◌, ◌≤◌, eqb, length, get_or, drop}
 use Rattle.laws.specs.Cases.{pick}
-use Rattle.laws.specs.Over.{over}
 use Rattle.rules.specs.Refusals.{most_fraction, most_string}
 use Rattle.rules.specs.Units.{Base, letter, Unit}
 use Rattle.rules.specs.Records.{numeral_tag, keyed_tag, string_tag, unit_field, field_bytes, num4}
 use Rattle.rules.specs.WellFormed.{wf_unit}
 use Rattle.rules.specs.Printing.{unit_text}
+use Rattle.print_unit.specs.Ways.{Way, Fits, Puts}
 use Rattle.print_unit.specs.Texts.{numeral_text, keyed_text}
 use Rattle.print_unit.specs.Strings.{string_text}
 
@@ -52,21 +52,12 @@ pub record IsUnit (p : List ℕ) (base : ℕ) (b : Base) (u : Unit) : Type 0 whe
   pub is : p ≡ field_bytes (unit_field u)
   pub good : wf_unit b u ≡ true
 
--- the bytes are a unit's field
-pub record HasUnit (p : List ℕ) (base : ℕ) : Type 0 where
+-- the bytes are a unit's field, and the buffer has room for its text from `at` on
+pub record UnitFits (w : Way) (p : List ℕ) (base at : ℕ) (old : List ℕ) : Type 0 where
   pub b : Base
   pub u : Unit
   pub has : IsUnit p base b u
+  pub fits : Fits w (unit_text b u) at old
 
--- .. whose text has at most so many characters
-pub record UnitFits (p : List ℕ) (base room : ℕ) : Type 0 where
-  pub b : Base
-  pub u : Unit
-  pub has : IsUnit p base b u
-  pub fits : length (unit_text b u) ≤ room
-
-abbrev pub UnitLen : List ℕ → ℕ → ℕ → Type 0
-UnitLen p base r = (b : Base) (u : Unit) → IsUnit p base b u → r ≡ length (unit_text b u)
-
-abbrev pub PutUnit : List ℕ → ℕ → List ℕ → ℕ → List ℕ → Type 0
-PutUnit p base old r new = (b : Base) (u : Unit) → IsUnit p base b u → (r ≡ length (unit_text b u)) × (new ≡ over (unit_text b u) old)
+abbrev pub PutUnit : Way → List ℕ → ℕ → ℕ → List ℕ → ℕ → List ℕ → Type 0
+PutUnit w p base at old r new = (b : Base) (u : Unit) → IsUnit p base b u → Puts w (unit_text b u) at old r new

@@ -1,18 +1,18 @@
-// A unit as text under its place's base, written over the start of a lent buffer: a numeral's prefix, digits and full stop; a string between its marks,
-// each mark inside doubled; other characters as they are.
+// A unit as text under its place's base, a numeral's prefix, digits and full stop; a string between its marks, each mark inside doubled; other characters as
+// they are. Each writer is told from where on in the lent buffer, and says where it ends; over `Measure` in place of `Page` it writes nothing.
 #![tactic(auto)]
 
-ghost use Rattle.std.specs.Prelude.{◌≡◌, ◌/◌, ◌^◌, ◌≤◌, ◌<◌, length};
-ghost use Rattle.laws.specs.Over.{over};
+ghost use Rattle.std.specs.Prelude.{◌≡◌, [], ◌∷◌, ◌/◌, ◌^◌, ◌≤◌, ◌<◌, length};
+ghost use Rattle.digits.specs.Digits.{whole, fixed};
+ghost use Rattle.print_unit.specs.Ways.{Way, Fits, Puts, written, measured};
 ghost use Rattle.print_unit.specs.Texts.{prefix_of, part_text, number_text, numeral_text, keyed_text};
-ghost use Rattle.print_unit.specs.Strings.{doubled_at, string_text};
-ghost use Rattle.print_unit.specs.Units.{word_text, field_text, Sized, HasUnit, UnitFits, UnitLen, PutUnit};
+ghost use Rattle.print_unit.specs.Strings.{character_text, doubled_at, string_text};
+ghost use Rattle.print_unit.specs.Units.{word_text, field_text, Sized, UnitFits, PutUnit};
+
+use record_walk::Tag;
 
 // The mark at both ends of a string.
 const MARK: u8 = b'"';
-
-// How many characters the two marks of a string are.
-const MARKS: usize = 2;
 
 // A decimal numeral's field from its length's low byte on, where it has no fraction digits and a value below 2^24: 6, `D`, 0, 0 as one number.
 const SMALL_DECIMAL: u32 = 105119744;
@@ -20,18 +20,79 @@ const SMALL_DECIMAL: u32 = 105119744;
 // The decimal digits.
 const TEN: u32 = 10;
 
-// The base to the power k.
-fn power(base: u32, k: u8) -> u64
-    requires { (2 ≤ base) × (base ≤ 16) × (k ≤ 9) }
-    ensures { result ≡ base ^ k }
-{
-    let mut p: u64 = 1;
-    let mut i: u8 = 0;
-    while i < k {
-        p = p * base as u64;
-        i += 1;
+// Where a text goes. Each writer says where its text ends.
+pub trait Sink {
+    // How much room there is, and what the lent buffer holds behind a writer.
+    ghost way: { Way };
+
+    // Puts one byte.
+    fn put_u8(out: &mut [u8], at: usize, b: u8) -> usize
+        requires { Fits way (b ∷ []) at out.old }
+        ensures { Puts way (b ∷ []) at out.old result out.new };
+
+    // Puts a copy of the content.
+    fn put_bytes(out: &mut [u8], at: usize, content: &[u8]) -> usize
+        requires { Fits way content.now at out.old }
+        ensures { Puts way content.now at out.old result out.new };
+
+    // Puts all digits of n.
+    fn put_whole(out: &mut [u8], at: usize, n: u32, base: u32) -> usize
+        requires { (2 ≤ base) × (base ≤ 16) × Fits way (whole base n) at out.old }
+        ensures { Puts way (whole base n) at out.old result out.new };
+
+    // Puts the last k digits of n.
+    fn put_digits(out: &mut [u8], at: usize, k: u8, n: u32, base: u32) -> usize
+        requires { (2 ≤ base) × (base ≤ 16) × Fits way (fixed k base n) at out.old }
+        ensures { Puts way (fixed k base n) at out.old result out.new };
+}
+
+// The text is written into the lent buffer.
+pub struct Page;
+
+impl Sink for Page {
+    ghost way = { written };
+
+    fn put_u8(out: &mut [u8], at: usize, b: u8) -> usize {
+        out[at] = b;
+        at + 1
     }
-    p
+
+    fn put_bytes(out: &mut [u8], at: usize, content: &[u8]) -> usize {
+        fields::put_bytes(&mut out[at..], content);
+        at + content.len()
+    }
+
+    fn put_whole(out: &mut [u8], at: usize, n: u32, base: u32) -> usize {
+        at + digits::put_whole(&mut out[at..], n, base)
+    }
+
+    fn put_digits(out: &mut [u8], at: usize, k: u8, n: u32, base: u32) -> usize {
+        digits::put_digits(&mut out[at..], k as usize, n, base);
+        at + k as usize
+    }
+}
+
+// The text is measured, and no buffer is touched.
+pub struct Measure;
+
+impl Sink for Measure {
+    ghost way = { measured };
+
+    fn put_u8(_out: &mut [u8], at: usize, _b: u8) -> usize {
+        at + 1
+    }
+
+    fn put_bytes(_out: &mut [u8], at: usize, content: &[u8]) -> usize {
+        at + content.len()
+    }
+
+    fn put_whole(_out: &mut [u8], at: usize, n: u32, base: u32) -> usize {
+        at + digits::digit_count(n, base)
+    }
+
+    fn put_digits(_out: &mut [u8], at: usize, k: u8, _n: u32, _base: u32) -> usize {
+        at + k as usize
+    }
 }
 
 // The number before the full stop, where k digits stand behind it.
@@ -39,242 +100,159 @@ fn before_stop(n: u32, base: u32, k: u8) -> u32
     requires { (2 ≤ base) × (base ≤ 16) × (k ≤ 9) }
     ensures { result ≡ n / base ^ k }
 {
-    (n as u64 / power(base, k)) as u32
+    (n as u64 / (base as u64).pow(k as u32)) as u32
 }
 
-// Writes digits, the full stop, and k digits. Returns how many characters.
-fn put_part(out: &mut [u8], k: u8, n: u32, base: u32) -> usize
-    requires { (2 ≤ base) × (base ≤ 16) × (k ≤ 9) × (length (part_text k base n) ≤ length out.old) }
-    ensures { (result ≡ length (part_text k base n)) × (out.new ≡ over (part_text k base n) out.old) }
+// Puts digits, the full stop, and k digits.
+fn put_part<S: Sink>(out: &mut [u8], at: usize, k: u8, n: u32, base: u32) -> usize
+    requires { (2 ≤ base) × (base ≤ 16) × (k ≤ 9) × Fits S.way (part_text k base n) at out.old }
+    ensures { Puts S.way (part_text k base n) at out.old result out.new }
 {
-    let m = before_stop(n, base, k);
-    let p = digits::put_whole(out, m, base);
-    fields::put_u8(&mut out[p..], b'.');
-    let q = p + 1;
-    digits::put_digits(&mut out[q..], k as usize, n, base);
-    q + k as usize
+    let stop = S::put_whole(out, at, before_stop(n, base, k), base);
+    let behind = S::put_u8(out, stop, b'.');
+    S::put_digits(out, behind, k, n, base)
 }
 
-// Writes a numeral's digits, with the full stop if it has fraction digits. Returns how many characters.
-fn put_number(out: &mut [u8], letter: u8, fraction: u8, value: u32) -> usize
-    requires { (fraction ≤ 9) × (length (number_text letter fraction value) ≤ length out.old) }
-    ensures { (result ≡ length (number_text letter fraction value)) × (out.new ≡ over (number_text letter fraction value) out.old) }
+// Puts a numeral's digits, with the full stop if it has fraction digits.
+fn put_number<S: Sink>(out: &mut [u8], at: usize, letter: u8, fraction: u8, value: u32) -> usize
+    requires { (fraction ≤ 9) × Fits S.way (number_text letter fraction value) at out.old }
+    ensures { Puts S.way (number_text letter fraction value) at out.old result out.new }
 {
     let base = digits::size(letter) as u32;
     if fraction == 0 {
-        return digits::put_whole(out, value, base);
+        return S::put_whole(out, at, value, base);
     }
-    put_part(out, fraction, value, base)
+    put_part::<S>(out, at, fraction, value, base)
 }
 
-// How many characters a numeral has, its prefix apart.
-fn number_len(letter: u8, fraction: u8, value: u32) -> usize
-    requires { fraction ≤ 9 }
-    ensures { result ≡ length (number_text letter fraction value) }
-{
-    let base = digits::size(letter) as u32;
-    if fraction == 0 {
-        return digits::digit_count(value, base);
-    }
-    let m = before_stop(value, base, fraction);
-    digits::digit_count(m, base) + 1 + fraction as usize
-}
-
-// Writes the prefix, where the letter is not that of the place's base. Returns how many characters.
-fn put_prefix(out: &mut [u8], base: u8, letter: u8) -> usize
-    requires { length (prefix_of base letter) ≤ length out.old }
-    ensures { (result ≡ length (prefix_of base letter)) × (out.new ≡ over (prefix_of base letter) out.old) }
+// Puts the prefix, where the letter is not that of the place's base.
+fn put_prefix<S: Sink>(out: &mut [u8], at: usize, base: u8, letter: u8) -> usize
+    requires { Fits S.way (prefix_of base letter) at out.old }
+    ensures { Puts S.way (prefix_of base letter) at out.old result out.new }
 {
     if base == letter {
-        return 0;
+        return at;
     }
-    out[0] = letter;
-    out[1] = b'\'';
-    digits::PREFIX
+    let mark = S::put_u8(out, at, letter);
+    S::put_u8(out, mark, b'\'')
 }
 
-// How many characters of prefix the letter needs under the place's base.
-fn prefix_len(base: u8, letter: u8) -> usize
-    ensures { result ≡ length (prefix_of base letter) }
+// Puts a D, H, O or B numeral as it stands under the place's base.
+fn put_numeral_text<S: Sink>(
+    out: &mut [u8],
+    at: usize,
+    base: u8,
+    letter: u8,
+    fraction: u8,
+    value: u32,
+) -> usize
+    requires { (fraction ≤ 9) × Fits S.way (numeral_text base letter fraction value) at out.old }
+    ensures { Puts S.way (numeral_text base letter fraction value) at out.old result out.new }
 {
-    if base == letter { 0 } else { digits::PREFIX }
+    let p = put_prefix::<S>(out, at, base, letter);
+    put_number::<S>(out, p, letter, fraction, value)
 }
 
-// Writes a D, H, O or B numeral as it stands under the place's base. Returns how many characters.
-fn put_numeral_text(out: &mut [u8], base: u8, letter: u8, fraction: u8, value: u32) -> usize
-    requires { (fraction ≤ 9) × (length (numeral_text base letter fraction value) ≤ length out.old) }
-    ensures { (result ≡ length (numeral_text base letter fraction value)) × (out.new ≡ over (numeral_text base letter fraction value) out.old) }
+// Puts a keyed numeral as it stands under the place's base.
+fn put_keyed_text<S: Sink>(out: &mut [u8], at: usize, base: u8, content: &[u8]) -> usize
+    requires { Fits S.way (keyed_text base content.now) at out.old }
+    ensures { Puts S.way (keyed_text base content.now) at out.old result out.new }
 {
-    let p = put_prefix(out, base, letter);
-    p + put_number(&mut out[p..], letter, fraction, value)
+    let p = put_prefix::<S>(out, at, base, b'K');
+    S::put_bytes(out, p, content)
 }
 
-// How many characters it has there.
-fn numeral_text_len(base: u8, letter: u8, fraction: u8, value: u32) -> usize
-    requires { fraction ≤ 9 }
-    ensures { result ≡ length (numeral_text base letter fraction value) }
+// Puts a character of a string, a mark twice.
+fn put_character<S: Sink>(out: &mut [u8], at: usize, b: u8) -> usize
+    requires { Fits S.way (character_text b) at out.old }
+    ensures { Puts S.way (character_text b) at out.old result out.new }
 {
-    prefix_len(base, letter) + number_len(letter, fraction, value)
-}
-
-// Writes a keyed numeral as it stands under the place's base. Returns how many characters.
-fn put_keyed_text(out: &mut [u8], base: u8, content: &[u8]) -> usize
-    requires { length (keyed_text base content.now) ≤ length out.old }
-    ensures { (result ≡ length (keyed_text base content.now)) × (out.new ≡ over (keyed_text base content.now) out.old) }
-{
-    let p = put_prefix(out, base, b'K');
-    fields::put_bytes(&mut out[p..], content);
-    p + content.len()
-}
-
-// How many characters the content has with its marks doubled.
-fn doubled_len(content: &[u8]) -> usize
-    requires { length content.now < 65536 }
-    ensures { result ≡ length (doubled_at content.now 0) }
-{
-    let mut i = 0;
-    let mut count = 0;
-    while i < content.len() {
-        if content[i] == MARK {
-            count += 2;
-            i += 1;
-        } else {
-            count += 1;
-            i += 1;
-        }
+    let end = S::put_u8(out, at, b);
+    if b == MARK {
+        return S::put_u8(out, end, MARK);
     }
-    count
+    end
 }
 
-// Writes the content with its marks doubled. Returns how many characters.
-fn put_doubled(out: &mut [u8], content: &[u8]) -> usize
-    requires { length (doubled_at content.now 0) ≤ length out.old }
-    ensures { (result ≡ length (doubled_at content.now 0)) × (out.new ≡ over (doubled_at content.now 0) out.old) }
+// Puts the content with its marks doubled.
+fn put_doubled<S: Sink>(out: &mut [u8], at: usize, content: &[u8]) -> usize
+    requires { Fits S.way (doubled_at content.now 0) at out.old }
+    ensures { Puts S.way (doubled_at content.now 0) at out.old result out.new }
 {
-    let mut i = 0;
-    let mut n = 0;
-    while i < content.len() {
-        if content[i] == MARK {
-            out[n] = MARK;
-            out[n + 1] = MARK;
-            n += 2;
-            i += 1;
-        } else {
-            out[n] = content[i];
-            n += 1;
-            i += 1;
-        }
+    let mut at = at;
+    for &b in content {
+        at = put_character::<S>(out, at, b);
     }
-    n
+    at
 }
 
-// Writes the string between its marks. Returns how many characters.
-fn put_string(out: &mut [u8], content: &[u8]) -> usize
-    requires { length (string_text content.now) ≤ length out.old }
-    ensures { (result ≡ length (string_text content.now)) × (out.new ≡ over (string_text content.now) out.old) }
+// Puts the string between its marks.
+fn put_string<S: Sink>(out: &mut [u8], at: usize, content: &[u8]) -> usize
+    requires { Fits S.way (string_text content.now) at out.old }
+    ensures { Puts S.way (string_text content.now) at out.old result out.new }
 {
-    fields::put_u8(out, MARK);
-    let n = 1 + put_doubled(&mut out[1..], content);
-    fields::put_u8(&mut out[n..], MARK);
-    n + 1
+    let inside = S::put_u8(out, at, MARK);
+    let end = put_doubled::<S>(out, inside, content);
+    S::put_u8(out, end, MARK)
 }
 
-// Writes a numeral without fraction as it stands under the place's base. Returns how many characters.
-pub fn put_whole_text(out: &mut [u8], base: u8, letter: u8, value: u32) -> usize
-    requires { length (numeral_text base letter 0 value) ≤ length out.old }
-    ensures { (result ≡ length (numeral_text base letter 0 value)) × (out.new ≡ over (numeral_text base letter 0 value) out.old) }
+// Puts a numeral without fraction as it stands under the place's base.
+pub fn put_whole_text<S: Sink>(out: &mut [u8], at: usize, base: u8, letter: u8, value: u32) -> usize
+    requires { Fits S.way (numeral_text base letter 0 value) at out.old }
+    ensures { Puts S.way (numeral_text base letter 0 value) at out.old result out.new }
 {
-    let start = put_prefix(out, base, letter);
-    start + digits::put_whole(&mut out[start..], value, digits::size(letter) as u32)
+    let size = digits::size(letter) as u32;
+    let start = put_prefix::<S>(out, at, base, letter);
+    S::put_whole(out, start, value, size)
 }
 
-// How many characters it has there.
-pub fn whole_text_len(base: u8, letter: u8, value: u32) -> usize
-    ensures { result ≡ length (numeral_text base letter 0 value) }
+// Puts a keyed numeral, an identifier, a symbolic name or a string.
+fn put_word<S: Sink>(out: &mut [u8], at: usize, content: &[u8], tag: u8, base: u8) -> usize
+    requires { Fits S.way (word_text base tag content.now) at out.old }
+    ensures { Puts S.way (word_text base tag content.now) at out.old result out.new }
 {
-    prefix_len(base, letter) + digits::digit_count(value, digits::size(letter) as u32)
-}
-
-// Writes a keyed numeral, an identifier, a symbolic name or a string. Returns how many characters.
-fn put_word(out: &mut [u8], content: &[u8], tag: u8, base: u8) -> usize
-    requires { length (word_text base tag content.now) ≤ length out.old }
-    ensures { (result ≡ length (word_text base tag content.now))
-        × (out.new ≡ over (word_text base tag content.now) out.old) }
-{
-    if tag == record_walk::STRING {
-        return put_string(out, content);
+    if tag == Tag::String as u8 {
+        return put_string::<S>(out, at, content);
     }
-    if tag == record_walk::KEYED {
-        return put_keyed_text(out, base, content);
+    if tag == Tag::Keyed as u8 {
+        return put_keyed_text::<S>(out, at, base, content);
     }
-    fields::put_bytes(out, content);
-    content.len()
+    S::put_bytes(out, at, content)
 }
 
-// How many characters it has.
-fn word_len(content: &[u8], tag: u8, base: u8) -> usize
-    requires { length content.now < 65536 }
-    ensures { result ≡ length (word_text base tag content.now) }
+// Puts any unit, its tag deciding.
+fn put_any<S: Sink>(out: &mut [u8], at: usize, part: &[u8], base: u8) -> usize
+    requires { Sized part.now × Fits S.way (field_text base part.now) at out.old }
+    ensures { Puts S.way (field_text base part.now) at out.old result out.new }
 {
-    if tag == record_walk::STRING {
-        return doubled_len(content) + MARKS;
-    }
-    if tag == record_walk::KEYED {
-        return prefix_len(base, b'K') + content.len();
-    }
-    content.len()
-}
-
-// Writes any unit, its tag deciding. Returns how many characters.
-fn put_any(out: &mut [u8], part: &[u8], base: u8) -> usize
-    requires { Sized part.now × (length (field_text base part.now) ≤ length out.old) }
-    ensures { (result ≡ length (field_text base part.now))
-        × (out.new ≡ over (field_text base part.now) out.old) }
-{
-    if part[0] == record_walk::NUMERAL {
-        return put_numeral_text(
+    if part[0] == Tag::Numeral as u8 {
+        return put_numeral_text::<S>(
             out,
+            at,
             base,
             part[record_walk::LETTER],
             part[record_walk::FRACTION],
             record_walk::number_at(part, record_walk::VALUE),
         );
     }
-    put_word(out, &part[record_walk::HEADER..], part[0], base)
+    put_word::<S>(out, at, &part[record_walk::HEADER..], part[0], base)
 }
 
-// Writes the text of the unit whose field is lent; most are one decimal digit under D. Returns how many characters.
-pub fn put_unit(out: &mut [u8], part: &[u8], base: u8) -> usize
-    requires { UnitFits part.now base (length out.old) }
-    ensures { PutUnit part.now base out.old result out.new }
+// Puts the text of the unit whose field is lent; most are one decimal digit under D. `put_any` is called at two places, so that it stays out of the loops over units.
+pub fn put_unit<S: Sink>(out: &mut [u8], at: usize, part: &[u8], base: u8) -> usize
+    requires { UnitFits S.way part.now base at out.old }
+    ensures { PutUnit S.way part.now base at out.old result out.new }
 {
     if base != b'D' {
-        return put_any(out, part, base);
+        return put_any::<S>(out, at, part, base);
     }
-    if part[0] == record_walk::NUMERAL {
+    if part[0] == Tag::Numeral as u8 {
         if record_walk::number_at(part, record_walk::LENGTH) == SMALL_DECIMAL {
             let value = record_walk::number_at(part, record_walk::VALUE);
             if value < TEN {
-                out[0] = b'0' + value as u8;
-                return 1;
+                return S::put_u8(out, at, b'0' + value as u8);
             }
         }
     }
-    put_any(out, part, b'D')
-}
-
-// How many characters the text of the unit has whose field is lent.
-pub fn unit_len(part: &[u8], base: u8) -> usize
-    requires { HasUnit part.now base }
-    ensures { UnitLen part.now base result }
-{
-    if part[0] == record_walk::NUMERAL {
-        return numeral_text_len(
-            base,
-            part[record_walk::LETTER],
-            part[record_walk::FRACTION],
-            record_walk::number_at(part, record_walk::VALUE),
-        );
-    }
-    word_len(&part[record_walk::HEADER..], part[0], base)
+    put_any::<S>(out, at, part, b'D')
 }

@@ -22,7 +22,10 @@ use Rattle.record_walk.proofs.RunLaws.{drop_behind, stands_inside}
 use Rattle.record_walk.proofs.WalkLaws.{tag_there}
 use Rattle.record_walk.specs.Fronts.{tag_of}
 use Rattle.print_value.proofs.ShortLaws.{short_is, short_same, span}
-use Rattle.print_value.specs.Values.{IsElement, IsUnits, Stood, dashed, element_text, head_length, head_size, joint_size, joint_text, last_at, printed_from, short_at, unit_bytes, units_text}
+use Rattle.print_value.specs.Joints.{joint_text, printed_from}
+use Rattle.print_value.specs.declared.Joint.{Joint}
+use Rattle.print_value.specs.declared.Joint.TheVariants.{Start, Full, Short}
+use Rattle.print_value.specs.Values.{IsElement, IsUnits, Stood, dashed, element_text, head_length, head_size, joint_at, last_at, short_at, unit_bytes, units_text}
 
 -- ---- where its pieces stand
 
@@ -149,56 +152,53 @@ full_text b e =
     rw (lex_text_lem b i, links_text b D (tail_links e), dashes b (leading e) (last_unit e))
     (sym (append_assoc (unit_text b i) (dashed b (others (leading e) (last_unit e))) (tail_text b e)))
 
--- the number of characters before the element, its printed units, and where they stand
-pub record Printed (rec : List ℕ) (at base : ℕ) (b : Base) (before : Option Element) (e : Element) (rest : List ℕ) (n begin : ℕ) : Type 0 where
+-- what stands before the element, its printed units, and where they stand
+pub record Printed (rec : List ℕ) (at base : ℕ) (b : Base) (before : Option Element) (e : Element) (rest : List ℕ) (j : Joint) (begin : ℕ) : Type 0 where
   pub i : Unit
   pub l : List Unit
   pub has : IsUnits rec begin base b i l rest
-  pub few : n ≤ 2
-  pub is : element_text b before e ≡ (joint_text n ++ units_text b i l) ++ tail_text b e
+  pub is : element_text b before e ≡ (joint_text j ++ units_text b i l) ++ tail_text b e
   pub last : last_at begin i l ≡ at + head_size e + length (unit_bytes (leading e))
   pub next : begin + length (unit_bytes (i ∷ l)) ≡ at + length (bytes_of (element_fields e))
 
 module _ {rec : List ℕ} {at base : ℕ} {b : Base} {e : Element} {rest : List ℕ} (h : IsElement rec at base b e rest) where
   -- from its first unit on
-  full : (before : Option Element) (n : ℕ) → n ≤ 2
-      → element_text b before e ≡ (joint_text n ++ units_text b (first_unit (leading e) (last_unit e)) (others (leading e) (last_unit e))) ++ tail_text b e
-      → Printed rec at base b before e rest n (at + head_size e)
-  full before n m t =
+  full : (before : Option Element) (j : Joint)
+      → element_text b before e ≡ (joint_text j ++ units_text b (first_unit (leading e) (last_unit e)) (others (leading e) (last_unit e))) ++ tail_text b e
+      → Printed rec at base b before e rest j (at + head_size e)
+  full before j t =
       record {
         i = first_unit (leading e) (last_unit e);
         l = others (leading e) (last_unit e);
         has = full_units h;
-        few = m;
         is = t;
         last = last_at_lem (at + head_size e) (leading e) (last_unit e);
         next = omega (arith, element_size e, ap (λ (us : List Unit). length (unit_bytes us)) (units_split (leading e) (last_unit e)));
       }
 
-  first_printed : Printed rec at base b none e rest 0 (at + head_size e)
-  unfolding element_text joint_text
-  first_printed = full none 0 (omega arith) (full_text b e)
+  first_printed : Printed rec at base b none e rest Start (at + head_size e)
+  unfolding element_text
+  first_printed = full none Start (full_text b e)
 
-  full_printed : (e₀ : Element) → is_short e₀ e ≡ false → Printed rec at base b (some e₀) e rest 1 (at + head_size e)
-  unfolding element_text joint_text
-  full_printed e₀ y = full (some e₀) 1 (omega arith) (rw y (ap (λ (r : List ℕ). byte "&" ∷ r) (full_text b e)))
+  full_printed : (e₀ : Element) → is_short e₀ e ≡ false → Printed rec at base b (some e₀) e rest Full (at + head_size e)
+  unfolding element_text
+  full_printed e₀ y = full (some e₀) Full (rw y (ap (λ (r : List ℕ). byte "&" ∷ r) (full_text b e)))
 
-  short_printed : (e₀ : Element) → is_short e₀ e ≡ true → Printed rec at base b (some e₀) e rest 2 (at + head_size e + length (unit_bytes (leading e)))
-  unfolding element_text joint_text units_text
+  short_printed : (e₀ : Element) → is_short e₀ e ≡ true → Printed rec at base b (some e₀) e rest Short (at + head_size e + length (unit_bytes (leading e)))
+  unfolding element_text units_text
   short_printed e₀ y =
       record {
         i = last_unit e;
         l = [];
         has = last_unit_lem h;
-        few = omega arith;
         is = rw (y, lex_text_lem b (last_unit e), append-nil (unit_text b (last_unit e)));
         last = refl;
         next = omega (arith, element_size e, ap length (units_bytes (leading e) (last_unit e ∷ [])), length-append (unit_bytes (leading e)) (unit_bytes (last_unit e ∷ [])));
       }
 
-  pub printed : (from lead until : ℕ) {first n begin : ℕ} (before : Option Element) → Stood rec from at lead until before e → first ≡ at + head_size e
-      → n ≡ joint_size rec from at first lead until → begin ≡ printed_from n first lead until → Printed rec at base b before e rest n begin
-  unfolding joint_size printed_from
+  pub printed : (from lead until : ℕ) {first begin : ℕ} {j : Joint} (before : Option Element) → Stood rec from at lead until before e → first ≡ at + head_size e
+      → j ≡ joint_at rec from at first lead until → begin ≡ printed_from j first lead until → Printed rec at base b before e rest j begin
+  unfolding joint_at
   printed from lead until none s q p r = rw (r, p, eq-eqb at from s.same, q) first_printed
   printed from lead until {first} (some e₀) s q p r =
       let d : drop first rec ≡ unit_bytes (leading e) ++ (unit_bytes (last_unit e ∷ []) ++ rest) = rw q (leading_is h) in

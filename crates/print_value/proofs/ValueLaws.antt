@@ -11,7 +11,8 @@ use native.Mathlib.Nat.{add-sub_cancel_left}
 use native.Mathlib.Omega.{arith}
 use Rattle.laws.specs.Cases.{and_l, and_r}
 use Rattle.laws.specs.Lists.{all}
-use Rattle.laws.specs.Over.{back, back_over, over, part}
+use Rattle.print_unit.proofs.ChainLaws.{both_put, fits_first, fits_next, nothing_put}
+use Rattle.print_unit.specs.Ways.{Way, Puts}
 use Rattle.rules.proofs.FieldLaws.{bytes_append, bytes_cons}
 use Rattle.rules.proofs.ValueBack.{v_all}
 use Rattle.rules.specs.Commands.{Element, last_unit, leading, range, single}
@@ -22,7 +23,7 @@ use Rattle.rules.specs.WellFormed.{wf_element}
 use Rattle.record_walk.proofs.RunLaws.{drop_behind, stands_inside}
 use Rattle.record_walk.specs.Fronts.{tag_of}
 use Rattle.print_value.proofs.ElementLaws.{element_size, head_inside, leading_is, links_text, some_head}
-use Rattle.print_value.specs.Values.{ElementFits, ElementLen, IsElement, IsValue, LaidElement, LaidValue, PutElement, PutValue, Stood, ValueFits, ValueLen, element_text, head_size, unit_bytes}
+use Rattle.print_value.specs.Values.{ElementFits, IsElement, IsValue, LaidElement, PutElement, PutValue, Stood, ValueFits, element_text, head_size, unit_bytes}
 use Rattle.print_value.specs.declared.Laid.{Laid}
 
 abbrev pub value_bytes : List Element → List ℕ
@@ -102,11 +103,6 @@ module _ {rec : List ℕ} {from base : ℕ} {b : Base} {v : List Element} {rest 
       inside = w.inside;
     }
 
-    here_room : length done + length (element_text b before e) ≤ length (render (value_lex b v))
-    here_room =
-        let T : List ℕ = element_text b before e in
-        omega (arith, ap length w.total, length-append done (T ++ more_text b e es), length-append T (more_text b e es))
-
     here_inside : at + length (bytes_of (element_fields e)) ≤ length rec
     here_inside = stands_inside rec at (bytes_of (element_fields e)) (value_bytes es ++ rest) here_is.is w.inside
 
@@ -116,19 +112,18 @@ module _ {rec : List ℕ} {from base : ℕ} {b : Base} {v : List Element} {rest 
     beyond : {n : ℕ} → n ≡ at + length (bytes_of (element_fields e)) → drop n rec ≡ value_bytes es ++ rest
     beyond q = rw q (drop_behind rec at (bytes_of (element_fields e)) (value_bytes es ++ rest) here_is.is)
 
-  module _ {r : Laid} (p : LaidElement at b before e r) {t : ℕ} (q : t ≡ tag_of (drop r.next rec)) where
+  module _ {r : Laid} (p : LaidElement at e r) {t : ℕ} (q : t ≡ tag_of (drop r.put.next rec)) where
     -- it is the last one
-    value_laid : {k : ℕ} (es : List Element) → Walking rec from b v rest at lead until done before e es → t < single_tag → length done ≡ k
-        → (render (value_lex b v) ≡ done ++ element_text b before e) × LaidValue from b v (record { bytes = k + r.bytes; next = r.next })
-    value_laid [] w m s =
+    value_laid : (es : List Element) → Walking rec from b v rest at lead until done before e es → t < single_tag
+        → (render (value_lex b v) ≡ done ++ element_text b before e) × (r.put.next ≡ from + length (value_bytes v))
+    value_laid [] w m =
         let T : List ℕ = element_text b before e in
-        let x : render (value_lex b v) ≡ done ++ T = w.total ∙ rw (append-nil T) in
-        (x, record { bytes = omega (arith, ap length x, length-append done T, p.bytes); next = p.next ∙ omega (arith, w.ends, sizes e []) })
-    value_laid (e' ∷ es) w m s = absurd (omega (arith, ap tag_of (beyond w p.next), (element_tag e' es rest).0))
+        (w.total ∙ rw (append-nil T), p.next ∙ omega (arith, w.ends, sizes e []))
+    value_laid (e' ∷ es) w m = absurd (omega (arith, ap tag_of (beyond w p.next), (element_tag e' es rest).0))
 
     -- another one stands there
     pub walking_more : (es : List Element) → Walking rec from b v rest at lead until done before e es → single_tag ≤ t
-        → (e' : Element) × (es' : List Element) × Walking rec from b v rest r.next r.lead r.until (done ++ element_text b before e) (some e) e' es'
+        → (e' : Element) × (es' : List Element) × Walking rec from b v rest r.put.next r.lead r.until (done ++ element_text b before e) (some e) e' es'
     walking_more [] w m = absurd (omega (arith, ap tag_of (beyond w p.next), h.ends))
     walking_more (e' ∷ es) w m =
         let T : List ℕ = element_text b before e in
@@ -158,92 +153,64 @@ module _ {rec : List ℕ} {from base : ℕ} {b : Base} {v : List Element} {rest 
           },
         )
 
--- ---- the loops
+-- ---- the loop
 
--- a walk that has done k characters
-pub record Walked (rec : List ℕ) (from : ℕ) (b : Base) (v : List Element) (rest : List ℕ) (at k lead until : ℕ) : Type 0 where
-  pub done : List ℕ
-  pub before : Option Element
-  pub e : Element
-  pub es : List Element
-  pub walk : Walking rec from b v rest at lead until done before e es
-  pub size : length done ≡ k
+-- the walk, where what is put begins at `at` of the buffer `start`
+record Walked (w : Way) (rec : List ℕ) (from : ℕ) (b : Base) (v : List Element) (rest : List ℕ) (at : ℕ) (start : List ℕ) (d : Laid) (out : List ℕ) : Type 0 where
+  done : List ℕ
+  before : Option Element
+  e : Element
+  es : List Element
+  walk : Walking rec from b v rest d.put.next d.lead d.until done before e es
+  put : Puts w done at start d.put.end out
 
--- measured so far: k characters
-pub record Counting (rec : List ℕ) (from base at k lead until : ℕ) : Type 0 where
-  pub laid : (b : Base) (v : List Element) (rest : List ℕ) → IsValue rec from base b v rest
-      → Walked rec from b v rest at k lead until
+pub record Laying (w : Way) (rec : List ℕ) (from base at : ℕ) (start : List ℕ) (d : Laid) (out : List ℕ) : Type 0 where
+  laid : (b : Base) (v : List Element) (rest : List ℕ) → IsValue rec from base b v rest → Walked w rec from b v rest at start d out
 
--- .. and written
-pub record Laying (rec : List ℕ) (from base : ℕ) (old out : List ℕ) (at k lead until : ℕ) : Type 0 where
-  pub count : Counting rec from base at k lead until
-  pub long : length out ≡ length old
-  pub is : (b : Base) (v : List Element) (rest : List ℕ) (h : IsValue rec from base b v rest) → out ≡ over (count.laid b v rest h).done old
+pub laying_start : (w : Way) (rec : List ℕ) (from base at : ℕ) (start : List ℕ)
+    → Laying w rec from base at start (record { put = record { end = at; next = from }; lead = from; until = from }) start
+laying_start w rec from base at start = record {
+  laid = λ b v rest h. let x = walking_start v h in record { done = []; before = none; e = x.0; es = x.1; walk = x.2; put = nothing_put w start at };
+}
 
-unfoldable pub counting_start : (rec : List ℕ) (from base : ℕ) → Counting rec from base from 0 from from
-counting_start rec from base = record { laid = λ b v rest h. let w = walking_start v h in record { done = []; before = none; e = w.0; es = w.1; walk = w.2; size = refl } }
+module _ {w : Way} {rec : List ℕ} {from base at : ℕ} {start : List ℕ} {d : Laid} {out : List ℕ} (m : Laying w rec from base at start d out) where
+  module _ (f : ValueFits w rec from base at start) where
+    -- there is room for the element that stands there
+    pub here_fits : ElementFits w rec from d base out
+    here_fits =
+        let x = m.laid f.b f.v f.rest f.has in
+        let T : List ℕ = element_text f.b x.before x.e in
+        record {
+          b = f.b;
+          before = x.before;
+          e = x.e;
+          rest = value_bytes x.es ++ f.rest;
+          has = here_is f.has x.walk;
+          stood = x.walk.stood;
+          fits = fits_first T (more_text f.b x.e x.es) (fits_next x.done (T ++ more_text f.b x.e x.es) (rw x.walk.total at f.fits) x.put);
+        }
 
-pub laying_start : (rec : List ℕ) (from base : ℕ) (old : List ℕ) → Laying rec from base old old from 0 from from
-unfolding counting_start
-laying_start rec from base old = record { count = counting_start rec from base; long = refl; is = λ b v rest h. refl }
+    -- where the next one stands
+    pub here_laid : {r : Laid} {new : List ℕ} → PutElement w rec from d base out r new → (d.put.next < r.put.next) × (r.put.next ≤ length rec)
+    here_laid p =
+        let x = m.laid f.b f.v f.rest f.has in
+        let q = (p f.b x.before x.e (value_bytes x.es ++ f.rest) (here_is f.has x.walk) x.walk.stood).0 in
+        (omega (arith, q.next, here_on f.has x.walk), omega (arith, q.next, here_inside f.has x.walk))
 
-module _ {rec : List ℕ} {from base room at k lead until : ℕ} (f : ValueFits rec from base room) (m : Counting rec from base at k lead until) where
-  -- there is room for what is done, and for the element that stands there
-  pub so_far : k ≤ room
-  so_far = let w = m.laid f.b f.v f.rest f.has in omega (arith, w.size, f.fits, here_room f.has w.walk)
+  module _ {r : Laid} {new : List ℕ} {t : ℕ} (p : PutElement w rec from d base out r new) (e : t ≡ tag_of (drop r.put.next rec)) where
+    pub laying_more : single_tag ≤ t → Laying w rec from base at start r new
+    laying_more t = record {
+      laid = λ b v rest h.
+          let x = m.laid b v rest h in
+          let T : List ℕ = element_text b x.before x.e in
+          let q = p b x.before x.e (value_bytes x.es ++ rest) (here_is h x.walk) x.walk.stood in
+          let y = walking_more h q.0 e x.es x.walk t in
+          record { done = x.done ++ T; before = some x.e; e = y.0; es = y.1; walk = y.2; put = both_put x.done T x.put q.1 };
+    }
 
-  pub here_fits : {least : ℕ} → room ≤ k + least → ElementFits rec from at lead until base least
-  here_fits h =
-      let w = m.laid f.b f.v f.rest f.has in
-      record {
-        b = f.b;
-        before = w.before;
-        e = w.e;
-        rest = value_bytes w.es ++ f.rest;
-        has = here_is f.has w.walk;
-        stood = w.walk.stood;
-        fits = omega (arith, w.size, f.fits, here_room f.has w.walk);
-      }
-
-  -- where the next one stands, and that there is room for this one
-  pub here_laid : {r : Laid} → ElementLen rec from at lead until base r → (k + r.bytes ≤ room) × (at < r.next) × (r.next ≤ length rec)
-  here_laid p =
-      let w = m.laid f.b f.v f.rest f.has in
-      let x = w.walk in
-      let q = p f.b w.before w.e (value_bytes w.es ++ f.rest) (here_is f.has x) x.stood in
-      (omega (arith, w.size, f.fits, q.bytes, here_room f.has x), omega (arith, q.next, here_on f.has x), omega (arith, q.next, here_inside f.has x))
-
-module _ {rec : List ℕ} {from base at k lead until t : ℕ} {r : Laid} (e : t ≡ tag_of (drop r.next rec)) where
-  unfoldable pub counting_more : Counting rec from base at k lead until → ElementLen rec from at lead until base r → single_tag ≤ t
-      → Counting rec from base r.next (k + r.bytes) r.lead r.until
-  counting_more m p t = record {
-    laid = λ b v rest h.
-        let w = m.laid b v rest h in
-        let T : List ℕ = element_text b w.before w.e in
-        let q = p b w.before w.e (value_bytes w.es ++ rest) (here_is h w.walk) w.walk.stood in
-        let x = walking_more h q e w.es w.walk t in
-        record { done = w.done ++ T; before = some w.e; e = x.0; es = x.1; walk = x.2; size = omega (arith, length-append w.done T, w.size, q.bytes) };
-  }
-
-  pub value_measured : Counting rec from base at k lead until → ElementLen rec from at lead until base r → t < single_tag
-      → ValueLen rec from base (record { bytes = k + r.bytes; next = r.next })
-  value_measured m p t = λ b v rest h.
-      let w = m.laid b v rest h in
-      (value_laid h (p b w.before w.e (value_bytes w.es ++ rest) (here_is h w.walk) w.walk.stood) e w.es w.walk t w.size).1
-
-  module _ {old out end : List ℕ} (v : Laying rec from base old out at k lead until) (p : PutElement rec from at lead until base (part out k) r end) where
-    put_here : (b : Base) (v₀ : List Element) (rest : List ℕ) (h : IsValue rec from base b v₀ rest)
-        → let w = v.count.laid b v₀ rest h in back out k end ≡ over (w.done ++ element_text b w.before w.e) old
-    put_here b v₀ rest h =
-        let w = v.count.laid b v₀ rest h in
-        back_over w.done (element_text b w.before w.e) old (v.is b v₀ rest h) w.size (p b w.before w.e (value_bytes w.es ++ rest) (here_is h w.walk) w.walk.stood).1
-
-    pub laying_more : single_tag ≤ t → length (back out k end) ≡ length out → Laying rec from base old (back out k end) r.next (k + r.bytes) r.lead r.until
-    unfolding counting_more
-    laying_more t s = record { count = counting_more v.count (λ b before e rest h s. (p b before e rest h s).0) t; long = s ∙ v.long; is = put_here }
-
-    pub value_put : t < single_tag → PutValue rec from base old (record { bytes = k + r.bytes; next = r.next }) (back out k end)
-    value_put t = λ b v₀ rest h.
-        let w = v.count.laid b v₀ rest h in
-        let a = value_laid h (p b w.before w.e (value_bytes w.es ++ rest) (here_is h w.walk) w.walk.stood).0 e w.es w.walk t w.size in
-        (a.1, rw a.0 (put_here b v₀ rest h))
+    pub value_put : t < single_tag → PutValue w rec from base at start r.put new
+    value_put t = λ b v rest h.
+        let x = m.laid b v rest h in
+        let q = p b x.before x.e (value_bytes x.es ++ rest) (here_is h x.walk) x.walk.stood in
+        let a = value_laid h q.0 e x.es x.walk t in
+        (a.1, rw a.0 (both_put x.done (element_text b x.before x.e) x.put q.1))

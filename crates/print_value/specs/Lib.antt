@@ -1,2 +1,3 @@
 pub mod Begins
+pub mod Joints
 pub mod Values

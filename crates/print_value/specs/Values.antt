@@ -1,9 +1,8 @@
 -- Values, elements and units as they stand in a record, and what is written for them.
-use Rattle.std.specs.Prelude.{◌≡◌, Bool, true, false, cond, not, ◌&&◌, List, [], ◌∷◌, ◌++◌, map, ℕ, ◌+◌, ◌-◌, ◌≤◌, ◌<◌, eqb, ltb, length, get_or, drop}
+use Rattle.std.specs.Prelude.{◌≡◌, Bool, true, false, cond, not, ◌&&◌, List, [], ◌∷◌, ◌++◌, map, ℕ, ◌+◌, ◌≤◌, ◌<◌, eqb, ltb, length, get_or, drop}
 use Rattle.std.proofs.Math.Option.{Option, none, some}
 use Rattle.laws.specs.Cases.{pick}
 use Rattle.laws.specs.Lists.{all, is_nil}
-use Rattle.laws.specs.Over.{over}
 use Rattle.rules.specs.Characters.{byte}
 use Rattle.rules.specs.Units.{Base, letter, Unit}
 use Rattle.rules.specs.Commands.{Element, single, range, leading}
@@ -13,15 +12,15 @@ use Rattle.rules.specs.Printing.{unit_text, full_links, later_links, is_short, l
 use Rattle.record_walk.specs.Fronts.{tag_of}
 use Rattle.record_walk.specs.Runs.{bytes_in}
 use Rattle.print_unit.specs.Texts.{numeral_text}
+use Rattle.print_unit.specs.Ways.{Way, Fits, Puts}
 use Rattle.print_unit.specs.Units.{header_size, letter_at, IsUnit}
 use Rattle.print_value.specs.Begins.{begins}
+use Rattle.print_value.specs.Joints.{joint_text}
+use Rattle.print_value.specs.declared.Joint.{Joint}
+use Rattle.print_value.specs.declared.Joint.TheVariants.{Start, Full, Short}
 use Rattle.print_value.specs.declared.Units.{Units}
 use Rattle.print_value.specs.declared.Laid.{Laid}
 use Rattle.print_value.specs.declared.Put.{Put}
-
--- the numbers that texts are measured with have 32 bits
-abbrev pub most_length : ℕ
-most_length = 4294967295
 
 -- ---- the units of an argument
 
@@ -42,15 +41,14 @@ last_at at i [] = at
 last_at at i (j ∷ l) = last_at (at + length (field_bytes (unit_field i))) j l
 
 -- a unit's field, and room for its text behind a `-`
-pub record DashedFits (p : List ℕ) (base room : ℕ) : Type 0 where
+pub record DashedFits (w : Way) (p : List ℕ) (base at : ℕ) (old : List ℕ) : Type 0 where
   pub b : Base
   pub u : Unit
   pub has : IsUnit p base b u
-  pub fits : 1 + length (unit_text b u) ≤ room
+  pub fits : Fits w (byte "-" ∷ unit_text b u) at old
 
-abbrev pub PutDashed : List ℕ → ℕ → List ℕ → ℕ → List ℕ → Type 0
-PutDashed p base old r new =
-    (b : Base) (u : Unit) → IsUnit p base b u → (r ≡ 1 + length (unit_text b u)) × (new ≡ over (byte "-" ∷ unit_text b u) old)
+abbrev pub PutDashed : Way → List ℕ → ℕ → ℕ → List ℕ → ℕ → List ℕ → Type 0
+PutDashed w p base at old r new = (b : Base) (u : Unit) → IsUnit p base b u → Puts w (byte "-" ∷ unit_text b u) at old r new
 
 -- from `from` on the record has the units i and l under the base b, whose letter is `base`, and behind them no unit
 pub record IsUnits (rec : List ℕ) (from base : ℕ) (b : Base) (i : Unit) (l : List Unit) (rest : List ℕ) : Type 0 where
@@ -60,26 +58,22 @@ pub record IsUnits (rec : List ℕ) (from base : ℕ) (b : Base) (i : Unit) (l :
   pub ends : tag_of rest < numeral_tag
   pub inside : from ≤ length rec
 
--- .. and their text has at most so many characters
-pub record UnitsFit (rec : List ℕ) (from base room : ℕ) : Type 0 where
+-- .. and there is room for their text
+pub record UnitsFit (w : Way) (rec : List ℕ) (from base at : ℕ) (old : List ℕ) : Type 0 where
   pub b : Base
   pub i : Unit
   pub l : List Unit
   pub rest : List ℕ
   pub has : IsUnits rec from base b i l rest
-  pub fits : length (units_text b i l) ≤ room
+  pub fits : Fits w (units_text b i l) at old
 
-pub record LaidUnits (from : ℕ) (b : Base) (i : Unit) (l : List Unit) (r : Units) : Type 0 where
-  pub bytes : r.bytes ≡ length (units_text b i l)
+pub record LaidUnits (from : ℕ) (i : Unit) (l : List Unit) (r : Units) : Type 0 where
   pub last : r.last ≡ last_at from i l
-  pub next : r.next ≡ from + length (unit_bytes (i ∷ l))
+  pub next : r.put.next ≡ from + length (unit_bytes (i ∷ l))
 
-abbrev pub UnitsLen : List ℕ → ℕ → ℕ → Units → Type 0
-UnitsLen rec from base r = (b : Base) (i : Unit) (l : List Unit) (rest : List ℕ) → IsUnits rec from base b i l rest → LaidUnits from b i l r
-
-abbrev pub PutUnits : List ℕ → ℕ → ℕ → List ℕ → Units → List ℕ → Type 0
-PutUnits rec from base old r new =
-    (b : Base) (i : Unit) (l : List Unit) (rest : List ℕ) → IsUnits rec from base b i l rest → LaidUnits from b i l r × (new ≡ over (units_text b i l) old)
+abbrev pub PutUnits : Way → List ℕ → ℕ → ℕ → ℕ → List ℕ → Units → List ℕ → Type 0
+PutUnits w rec from base at old r new =
+    (b : Base) (i : Unit) (l : List Unit) (rest : List ℕ) → IsUnits rec from base b i l rest → LaidUnits from i l r × Puts w (units_text b i l) at old r.put.end new
 
 -- ---- what stands before an argument
 
@@ -88,40 +82,22 @@ PutUnits rec from base old r new =
 unfoldable pub short_at : List ℕ → ℕ → ℕ → ℕ → Bool
 short_at rec first lead until = not (eqb lead until) && begins (drop first rec) (bytes_in rec lead until)
 
--- the characters before an element in the short form
-abbrev pub short_joint : ℕ
-short_joint = 2
+-- what stands before the element at `at` of the value that begins at `from`
+unfoldable pub joint_at : List ℕ → ℕ → ℕ → ℕ → ℕ → ℕ → Joint
+joint_at rec from at first lead until = pick (eqb at from) Start (pick (short_at rec first lead until) Short Full)
 
--- how many characters stand before the element at `at` of the value that begins at `from`
-unfoldable pub joint_size : List ℕ → ℕ → ℕ → ℕ → ℕ → ℕ → ℕ
-joint_size rec from at first lead until = pick (eqb at from) 0 (pick (short_at rec first lead until) short_joint 1)
-
-unfoldable pub joint_text : ℕ → List ℕ
-joint_text n = pick (eqb n 0) [] (pick (eqb n short_joint) (byte "&" ∷ byte "-" ∷ []) (byte "&" ∷ []))
-
--- where the first unit stands that is printed
-unfoldable pub printed_from : ℕ → ℕ → ℕ → ℕ → ℕ
-printed_from n first lead until = pick (eqb n short_joint) (first + (until - lead)) first
-
-pub record ArgumentFits (rec : List ℕ) (n from base room : ℕ) : Type 0 where
+pub record ArgumentFits (w : Way) (rec : List ℕ) (j : Joint) (from base at : ℕ) (old : List ℕ) : Type 0 where
   pub b : Base
   pub i : Unit
   pub l : List Unit
   pub rest : List ℕ
   pub has : IsUnits rec from base b i l rest
-  pub few : n ≤ short_joint
-  pub fits : n + length (units_text b i l) ≤ room
+  pub fits : Fits w (joint_text j ++ units_text b i l) at old
 
--- n characters of joint, and the units
-pub record LaidArgument (from n : ℕ) (b : Base) (i : Unit) (l : List Unit) (r : Units) : Type 0 where
-  pub bytes : r.bytes ≡ n + length (units_text b i l)
-  pub last : r.last ≡ last_at from i l
-  pub next : r.next ≡ from + length (unit_bytes (i ∷ l))
-
-abbrev pub PutArgument : List ℕ → ℕ → ℕ → ℕ → List ℕ → Units → List ℕ → Type 0
-PutArgument rec n from base old r new =
+abbrev pub PutArgument : Way → List ℕ → Joint → ℕ → ℕ → ℕ → List ℕ → Units → List ℕ → Type 0
+PutArgument w rec j from base at old r new =
     (b : Base) (i : Unit) (l : List Unit) (rest : List ℕ) → IsUnits rec from base b i l rest
-    → LaidArgument from n b i l r × (new ≡ over (joint_text n ++ units_text b i l) old)
+    → LaidUnits from i l r × Puts w (joint_text j ++ units_text b i l) at old r.put.end new
 
 -- ---- the end of a range
 
@@ -201,30 +177,25 @@ abbrev pub Stood : List ℕ → ℕ → ℕ → ℕ → ℕ → Option Element �
 Stood rec from at lead until none e = Foremost rec from at lead until
 Stood rec from at lead until (some e₀) e = Behind rec from at lead until e₀ e
 
-pub record ElementFits (rec : List ℕ) (from at lead until base room : ℕ) : Type 0 where
+-- the element behind the one that is laid as `d` says, and room for its text
+pub record ElementFits (w : Way) (rec : List ℕ) (from : ℕ) (d : Laid) (base : ℕ) (old : List ℕ) : Type 0 where
   pub b : Base
   pub before : Option Element
   pub e : Element
   pub rest : List ℕ
-  pub has : IsElement rec at base b e rest
-  pub stood : Stood rec from at lead until before e
-  pub fits : length (element_text b before e) ≤ room
+  pub has : IsElement rec d.put.next base b e rest
+  pub stood : Stood rec from d.put.next d.lead d.until before e
+  pub fits : Fits w (element_text b before e) d.put.end old
 
-pub record LaidElement (at : ℕ) (b : Base) (before : Option Element) (e : Element) (r : Laid) : Type 0 where
-  pub bytes : r.bytes ≡ length (element_text b before e)
+pub record LaidElement (at : ℕ) (e : Element) (r : Laid) : Type 0 where
   pub lead : r.lead ≡ at + head_size e
   pub until : r.until ≡ at + head_size e + length (unit_bytes (leading e))
-  pub next : r.next ≡ at + length (bytes_of (element_fields e))
+  pub next : r.put.next ≡ at + length (bytes_of (element_fields e))
 
-abbrev pub ElementLen : List ℕ → ℕ → ℕ → ℕ → ℕ → ℕ → Laid → Type 0
-ElementLen rec from at lead until base r =
-    (b : Base) (before : Option Element) (e : Element) (rest : List ℕ) → IsElement rec at base b e rest → Stood rec from at lead until before e
-    → LaidElement at b before e r
-
-abbrev pub PutElement : List ℕ → ℕ → ℕ → ℕ → ℕ → ℕ → List ℕ → Laid → List ℕ → Type 0
-PutElement rec from at lead until base old r new =
-    (b : Base) (before : Option Element) (e : Element) (rest : List ℕ) → IsElement rec at base b e rest → Stood rec from at lead until before e
-    → LaidElement at b before e r × (new ≡ over (element_text b before e) old)
+abbrev pub PutElement : Way → List ℕ → ℕ → Laid → ℕ → List ℕ → Laid → List ℕ → Type 0
+PutElement w rec from d base old r new =
+    (b : Base) (before : Option Element) (e : Element) (rest : List ℕ) → IsElement rec d.put.next base b e rest → Stood rec from d.put.next d.lead d.until before e
+    → LaidElement d.put.next e r × Puts w (element_text b before e) d.put.end old r.put.end new
 
 -- ---- a value
 
@@ -237,20 +208,14 @@ pub record IsValue (rec : List ℕ) (from base : ℕ) (b : Base) (v : List Eleme
   pub ends : tag_of rest < single_tag
   pub inside : from ≤ length rec
 
-pub record ValueFits (rec : List ℕ) (from base room : ℕ) : Type 0 where
+pub record ValueFits (w : Way) (rec : List ℕ) (from base at : ℕ) (old : List ℕ) : Type 0 where
   pub b : Base
   pub v : List Element
   pub rest : List ℕ
   pub has : IsValue rec from base b v rest
-  pub fits : length (render (value_lex b v)) ≤ room
+  pub fits : Fits w (render (value_lex b v)) at old
 
-pub record LaidValue (from : ℕ) (b : Base) (v : List Element) (r : Put) : Type 0 where
-  pub bytes : r.bytes ≡ length (render (value_lex b v))
-  pub next : r.next ≡ from + length (bytes_of (many element_fields v))
-
-abbrev pub ValueLen : List ℕ → ℕ → ℕ → Put → Type 0
-ValueLen rec from base r = (b : Base) (v : List Element) (rest : List ℕ) → IsValue rec from base b v rest → LaidValue from b v r
-
-abbrev pub PutValue : List ℕ → ℕ → ℕ → List ℕ → Put → List ℕ → Type 0
-PutValue rec from base old r new =
-    (b : Base) (v : List Element) (rest : List ℕ) → IsValue rec from base b v rest → LaidValue from b v r × (new ≡ over (render (value_lex b v)) old)
+abbrev pub PutValue : Way → List ℕ → ℕ → ℕ → ℕ → List ℕ → Put → List ℕ → Type 0
+PutValue w rec from base at old r new =
+    (b : Base) (v : List Element) (rest : List ℕ) → IsValue rec from base b v rest
+    → (r.next ≡ from + length (bytes_of (many element_fields v))) × Puts w (render (value_lex b v)) at old r.end new

@@ -1,43 +1,45 @@
-// The value of a place as text, from the fields of a record that is known to be well formed: element by element, unit by unit. Each writer is lent the
-// buffer from its start position, and says every byte of it; beside each stands the function that only measures.
+// The value of a place as text, from the fields of a record that is known to be well formed: element by element, unit by unit. Each writer is told from where
+// on in the lent buffer, and says where its text ends; over `Measure` in place of `Page` it writes nothing.
 #![tactic(auto)]
 
-ghost use Rattle.std.specs.Prelude.{◌≡◌, [], ◌∷◌, ◌+◌, ◌-◌, ◌^◌, ◌≤◌, ◌<◌, length, get_or};
-ghost use Rattle.laws.specs.Over.{over};
+ghost use Rattle.std.specs.Prelude.{◌≡◌, [], ◌∷◌, ◌++◌, ◌+◌, ◌-◌, ◌^◌, ◌≤◌, ◌<◌, length, get_or};
+ghost use Rattle.rules.specs.Characters.{byte};
+ghost use Rattle.print_unit.specs.Ways.{Fits, Puts};
 ghost use Rattle.print_value.specs.Begins.{begins, begins_at};
-ghost use Rattle.print_value.specs.Values.{most_length, DashedFits, PutDashed, UnitsFit, UnitsLen, PutUnits, short_at, joint_size, joint_text, printed_from, ArgumentFits, PutArgument, through_text, increment_text, range_end, EndStands, end_at, head_length, ElementFits, ElementLen, PutElement, ValueFits, ValueLen, PutValue};
+ghost use Rattle.print_value.specs.Joints.{joint_text, printed_from};
+ghost use Rattle.print_value.specs.Values.{DashedFits, PutDashed, UnitsFit, PutUnits, short_at, joint_at, ArgumentFits, PutArgument, through_text, increment_text, range_end, EndStands, end_at, head_length, ElementFits, PutElement, ValueFits, PutValue};
 
-// The characters before an element in the short form, `&-`; before an upper end, `&&`, and behind a compound argument, `&&-`; before an increment, `++`.
-const SHORT: usize = 2;
+use print_unit::Sink;
+use record_walk::Tag;
 
-const SIMPLE: usize = 2;
-
-const COMPOUND: usize = 3;
-
-const PLUS: usize = 2;
-
-// How many bytes were written, and where the next field begins.
-#[derive(Clone, Copy)]
+// Where a text ends, and where the field stands behind those that it was put for.
+#[derive(Clone, Copy, Debug, PartialEq, Eq)]
 pub struct Put {
-    pub bytes: usize,
+    pub end: usize,
     pub next: usize,
 }
 
 // The same of an argument's units, and where the last of them stands.
-#[derive(Clone, Copy)]
+#[derive(Clone, Copy, Debug, PartialEq, Eq)]
 pub struct Units {
-    pub bytes: usize,
+    pub put: Put,
     pub last: usize,
-    pub next: usize,
 }
 
 // The same of an element, whose leading units stand from `lead` to `until`.
-#[derive(Clone, Copy)]
+#[derive(Clone, Copy, Debug, PartialEq, Eq)]
 pub struct Laid {
-    pub bytes: usize,
+    pub put: Put,
     pub lead: usize,
     pub until: usize,
-    pub next: usize,
+}
+
+// What stands before an element: nothing at a value's start, else `&`, and `&-` in the short form.
+#[derive(Clone, Copy, Debug, PartialEq, Eq)]
+pub enum Joint {
+    Start,
+    Full,
+    Short,
 }
 
 // Where the field that stands there ends: no content of a well-formed record has more than 255 bytes.
@@ -48,52 +50,31 @@ pub fn behind(rec: &[u8], at: usize) -> usize
     at + (record_walk::HEADER + rec[at + record_walk::LENGTH] as usize)
 }
 
-// Writes a unit behind a `-`. Returns how many characters.
-fn put_dashed(out: &mut [u8], part: &[u8], base: u8) -> usize
-    requires { DashedFits part.now base (length out.old) }
-    ensures { PutDashed part.now base out.old result out.new }
+// Puts a unit behind a `-`.
+fn put_dashed<S: Sink>(out: &mut [u8], at: usize, part: &[u8], base: u8) -> usize
+    requires { DashedFits S.way part.now base at out.old }
+    ensures { PutDashed S.way part.now base at out.old result out.new }
 {
-    fields::put_u8(out, b'-');
-    1 + print_unit::put_unit(&mut out[1..], part, base)
+    let unit = S::put_u8(out, at, b'-');
+    print_unit::put_unit::<S>(out, unit, part, base)
 }
 
-// Writes the units that stand there, joined by `-`.
-fn put_units(out: &mut [u8], rec: &[u8], from: usize, base: u8) -> Units
-    requires { UnitsFit rec.now from base (length out.old) }
-    ensures { PutUnits rec.now from base out.old result out.new }
+// Puts the units that stand there, joined by `-`. A `while`, since a field says how far the next one is.
+fn put_units<S: Sink>(out: &mut [u8], at: usize, rec: &[u8], from: usize, base: u8) -> Units
+    requires { UnitsFit S.way rec.now from base at out.old }
+    ensures { PutUnits S.way rec.now from base at out.old result out.new }
 {
     let mut last = from;
     let mut next = behind(rec, from);
-    let mut k = print_unit::put_unit(out, &rec[from..next], base);
-    while record_walk::NUMERAL <= record_walk::tag_at(rec, next) {
+    let mut end = print_unit::put_unit::<S>(out, at, &rec[from..next], base);
+    while Tag::Numeral as u8 <= record_walk::tag_at(rec, next) {
         last = next;
         next = behind(rec, last);
-        k += put_dashed(&mut out[k..], &rec[last..next], base);
+        end = put_dashed::<S>(out, end, &rec[last..next], base);
     }
     Units {
-        bytes: k,
-        last: last,
-        next: next,
-    }
-}
-
-// How many characters they have.
-fn units_len(rec: &[u8], from: usize, base: u8) -> Units
-    requires { UnitsFit rec.now from base most_length }
-    ensures { UnitsLen rec.now from base result }
-{
-    let mut last = from;
-    let mut next = behind(rec, from);
-    let mut k = print_unit::unit_len(&rec[from..next], base);
-    while record_walk::NUMERAL <= record_walk::tag_at(rec, next) {
-        last = next;
-        next = behind(rec, last);
-        k += 1 + print_unit::unit_len(&rec[last..next], base);
-    }
-    Units {
-        bytes: k,
-        last: last,
-        next: next,
+        put: Put { end, next },
+        last,
     }
 }
 
@@ -102,17 +83,15 @@ fn alike(part: &[u8], lead: &[u8], from: usize) -> bool
     requires { length lead.now ≤ length part.now }
     ensures { result ≡ begins_at part.now lead.now from }
 {
-    let mut i = from;
-    while i < lead.len() {
+    for i in from..lead.len() {
         if part[i] != lead[i] {
             return false;
         }
-        i += 1;
     }
     true
 }
 
-// Whether a part starts with these bytes, four compared at once.
+// Whether a part starts with these bytes, four compared at once on purpose (docs/DECISIONS.md); a `while`, since the rest goes on where it ends.
 fn starts_with(part: &[u8], lead: &[u8]) -> bool
     ensures { result ≡ begins part.now lead.now }
 {
@@ -134,178 +113,141 @@ fn short_form(rec: &[u8], first: usize, lead: usize, until: usize) -> bool
     requires { (first ≤ length rec.now) × (lead ≤ until) × (until ≤ length rec.now) }
     ensures { result ≡ short_at rec.now first lead until }
 {
-    if lead == until {
-        return false;
-    }
-    starts_with(&rec[first..], &rec[lead..until])
+    lead != until && starts_with(&rec[first..], &rec[lead..until])
 }
 
-// How many characters stand before an element: none before a value's first one, else `&`, with a `-` for the short form.
-fn joint_len(rec: &[u8], from: usize, at: usize, first: usize, lead: usize, until: usize) -> usize
+// What stands before an element.
+fn joint_before(
+    rec: &[u8],
+    from: usize,
+    at: usize,
+    first: usize,
+    lead: usize,
+    until: usize,
+) -> Joint
     requires { (first ≤ length rec.now) × (lead ≤ until) × (until ≤ length rec.now) }
-    ensures { result ≡ joint_size rec.now from at first lead until }
+    ensures { result ≡ joint_at rec.now from at first lead until }
 {
     if at == from {
-        return 0;
+        return Joint::Start;
     }
     if short_form(rec, first, lead, until) {
-        return SHORT;
+        Joint::Short
+    } else {
+        Joint::Full
     }
-    1
 }
 
-// Writes so many characters of them.
-fn put_joint(out: &mut [u8], joint: usize)
-    requires { length (joint_text joint) ≤ length out.old }
-    ensures { out.new ≡ over (joint_text joint) out.old }
+// Puts it.
+fn put_joint<S: Sink>(out: &mut [u8], at: usize, joint: Joint) -> usize
+    requires { Fits S.way (joint_text joint) at out.old }
+    ensures { Puts S.way (joint_text joint) at out.old result out.new }
 {
-    if joint == 0 {
-        return;
-    }
-    out[0] = b'&';
-    if joint == SHORT {
-        out[1] = b'-';
+    match joint {
+        Joint::Start => at,
+        Joint::Full => S::put_u8(out, at, b'&'),
+        Joint::Short => {
+            let dash = S::put_u8(out, at, b'&');
+            S::put_u8(out, dash, b'-')
+        }
     }
 }
 
 // Where the first unit stands that is printed: behind the leading ones in the short form.
-fn printed_from(joint: usize, first: usize, lead: usize, until: usize) -> usize
+fn printed_from(joint: Joint, first: usize, lead: usize, until: usize) -> usize
     requires { (lead ≤ until) × (first + (until - lead) < 2 ^ 64) }
     ensures { result ≡ printed_from joint first lead until }
 {
-    if joint == SHORT {
-        return first + (until - lead);
-    }
-    first
-}
-
-// Writes what stands before an argument, and the units of it that are printed.
-fn put_argument(out: &mut [u8], rec: &[u8], joint: usize, from: usize, base: u8) -> Units
-    requires { ArgumentFits rec.now joint from base (length out.old) }
-    ensures { PutArgument rec.now joint from base out.old result out.new }
-{
-    put_joint(out, joint);
-    let units = put_units(&mut out[joint..], rec, from, base);
-    Units {
-        bytes: joint + units.bytes,
-        last: units.last,
-        next: units.next,
+    match joint {
+        Joint::Short => first + (until - lead),
+        Joint::Start | Joint::Full => first,
     }
 }
 
-// Writes what stands before a range's upper end. Returns how many characters.
-fn put_through(out: &mut [u8], compound: bool) -> usize
-    requires { length (through_text compound) ≤ length out.old }
-    ensures { (result ≡ length (through_text compound)) × (out.new ≡ over (through_text compound) out.old) }
-{
-    out[0] = b'&';
-    out[1] = b'&';
-    if compound {
-        out[2] = b'-';
-        return COMPOUND;
-    }
-    SIMPLE
-}
-
-// How many characters stand there.
-fn through_len(compound: bool) -> usize
-    ensures { result ≡ length (through_text compound) }
-{
-    if compound { COMPOUND } else { SIMPLE }
-}
-
-// Writes `++` and the increment, if it is not 1. Returns how many characters.
-fn put_increment(out: &mut [u8], base: u8, letter: u8, increment: u32) -> usize
-    requires { length (increment_text base letter increment) ≤ length out.old }
-    ensures { (result ≡ length (increment_text base letter increment))
-        × (out.new ≡ over (increment_text base letter increment) out.old) }
-{
-    if increment == 1 {
-        return 0;
-    }
-    put_plus(out);
-    PLUS + print_unit::put_whole_text(&mut out[PLUS..], base, letter, increment)
-}
-
-// Writes `++`.
-fn put_plus(out: &mut [u8])
-    requires { 2 ≤ length out.old }
-    ensures { out.new ≡ over (43 ∷ 43 ∷ []) out.old }
-{
-    out[0] = b'+';
-    out[1] = b'+';
-}
-
-// How many characters they have.
-fn increment_len(base: u8, letter: u8, increment: u32) -> usize
-    ensures { result ≡ length (increment_text base letter increment) }
-{
-    if increment == 1 {
-        return 0;
-    }
-    PLUS + print_unit::whole_text_len(base, letter, increment)
-}
-
-// Writes the end of a range: upper end and increment in the base of the lower end. Returns how many characters.
-fn put_range_end(
+// Puts what stands before an argument, and the units of it that are printed.
+fn put_argument<S: Sink>(
     out: &mut [u8],
+    at: usize,
+    rec: &[u8],
+    joint: Joint,
+    from: usize,
+    base: u8,
+) -> Units
+    requires { ArgumentFits S.way rec.now joint from base at out.old }
+    ensures { PutArgument S.way rec.now joint from base at out.old result out.new }
+{
+    let units = put_joint::<S>(out, at, joint);
+    put_units::<S>(out, units, rec, from, base)
+}
+
+// Puts what stands before a range's upper end.
+fn put_through<S: Sink>(out: &mut [u8], at: usize, compound: bool) -> usize
+    requires { Fits S.way (through_text compound) at out.old }
+    ensures { Puts S.way (through_text compound) at out.old result out.new }
+{
+    let second = S::put_u8(out, at, b'&');
+    let end = S::put_u8(out, second, b'&');
+    if compound {
+        return S::put_u8(out, end, b'-');
+    }
+    end
+}
+
+// Puts `++` and the increment, if it is not 1.
+fn put_increment<S: Sink>(out: &mut [u8], at: usize, base: u8, letter: u8, increment: u32) -> usize
+    requires { Fits S.way (increment_text base letter increment) at out.old }
+    ensures { Puts S.way (increment_text base letter increment) at out.old result out.new }
+{
+    if increment == 1 {
+        return at;
+    }
+    let second = S::put_u8(out, at, b'+');
+    let number = S::put_u8(out, second, b'+');
+    print_unit::put_whole_text::<S>(out, number, base, letter, increment)
+}
+
+// Puts the end of a range: upper end and increment in the base of the lower end.
+fn put_range_end<S: Sink>(
+    out: &mut [u8],
+    at: usize,
     base: u8,
     letter: u8,
     compound: bool,
     upper: u32,
     increment: u32,
 ) -> usize
-    requires { length (range_end base letter compound upper increment) ≤ length out.old }
-    ensures { (result ≡ length (range_end base letter compound upper increment))
-        × (out.new ≡ over (range_end base letter compound upper increment) out.old) }
+    requires { Fits S.way (range_end base letter compound upper increment) at out.old }
+    ensures { Puts S.way (range_end base letter compound upper increment) at out.old result out.new }
 {
-    let p = put_through(out, compound);
-    let q = p + print_unit::put_whole_text(&mut out[p..], base, letter, upper);
-    q + put_increment(&mut out[q..], base, letter, increment)
+    let p = put_through::<S>(out, at, compound);
+    let q = print_unit::put_whole_text::<S>(out, p, base, letter, upper);
+    put_increment::<S>(out, q, base, letter, increment)
 }
 
-// How many characters it has.
-fn range_end_len(base: u8, letter: u8, compound: bool, upper: u32, increment: u32) -> usize
-    ensures { result ≡ length (range_end base letter compound upper increment) }
+// Puts the end of the element whose field stands at `own`, if it is a range: its units stand at `first`, the last of them at `last`.
+fn put_end<S: Sink>(
+    out: &mut [u8],
+    at: usize,
+    rec: &[u8],
+    own: usize,
+    first: usize,
+    last: usize,
+    base: u8,
+) -> usize
+    requires { EndStands rec.now own last × Fits S.way (end_at rec.now own first last base) at out.old }
+    ensures { Puts S.way (end_at rec.now own first last base) at out.old result out.new }
 {
-    through_len(compound)
-        + print_unit::whole_text_len(base, letter, upper)
-        + increment_len(base, letter, increment)
-}
-
-// Writes the end of the element that stands there, if it is a range: its units stand at `first`, the last of them at `last`. Returns how many characters.
-fn put_end(out: &mut [u8], rec: &[u8], at: usize, first: usize, last: usize, base: u8) -> usize
-    requires { EndStands rec.now at last × (length (end_at rec.now at first last base) ≤ length out.old) }
-    ensures { (result ≡ length (end_at rec.now at first last base))
-        × (out.new ≡ over (end_at rec.now at first last base) out.old) }
-{
-    if rec[at] != record_walk::RANGE {
-        return 0;
+    if rec[own] != Tag::Range as u8 {
+        return at;
     }
-    put_range_end(
+    put_range_end::<S>(
         out,
+        at,
         base,
         rec[last + record_walk::HEADER],
         first < last,
-        record_walk::number_at(rec, at + record_walk::UPPER),
-        record_walk::number_at(rec, at + record_walk::INCREMENT),
-    )
-}
-
-// How many characters it has.
-fn end_len(rec: &[u8], at: usize, first: usize, last: usize, base: u8) -> usize
-    requires { EndStands rec.now at last }
-    ensures { result ≡ length (end_at rec.now at first last base) }
-{
-    if rec[at] != record_walk::RANGE {
-        return 0;
-    }
-    range_end_len(
-        base,
-        rec[last + record_walk::HEADER],
-        first < last,
-        record_walk::number_at(rec, at + record_walk::UPPER),
-        record_walk::number_at(rec, at + record_walk::INCREMENT),
+        record_walk::number_at(rec, own + record_walk::UPPER),
+        record_walk::number_at(rec, own + record_walk::INCREMENT),
     )
 }
 
@@ -313,97 +255,50 @@ fn end_len(rec: &[u8], at: usize, first: usize, last: usize, base: u8) -> usize
 fn head_len(tag: u8) -> usize
     ensures { result ≡ head_length tag }
 {
-    if tag == record_walk::RANGE {
+    if tag == Tag::Range as u8 {
         return record_walk::RANGE_FIELD;
     }
     record_walk::HEADER
 }
 
-// Writes the element that stands there, with what stands before it in the value that begins at `from`.
-fn put_element(
-    out: &mut [u8],
-    rec: &[u8],
-    from: usize,
-    at: usize,
-    lead: usize,
-    until: usize,
-    base: u8,
-) -> Laid
-    requires { ElementFits rec.now from at lead until base (length out.old) }
-    ensures { PutElement rec.now from at lead until base out.old result out.new }
+// Puts the element that stands behind the one that is laid, with what stands before it in the value that begins at `from`.
+fn put_element<S: Sink>(out: &mut [u8], rec: &[u8], from: usize, laid: Laid, base: u8) -> Laid
+    requires { ElementFits S.way rec.now from laid base out.old }
+    ensures { PutElement S.way rec.now from laid base out.old result out.new }
 {
-    let first = at + head_len(rec[at]);
-    let joint = joint_len(rec, from, at, first, lead, until);
-    let start = printed_from(joint, first, lead, until);
-    let units = put_argument(out, rec, joint, start, base);
-    let k = units.bytes;
-    let last = units.last;
-    let end = put_end(&mut out[k..], rec, at, first, last, base);
+    let own = laid.put.next;
+    let first = own + head_len(rec[own]);
+    let joint = joint_before(rec, from, own, first, laid.lead, laid.until);
+    let start = printed_from(joint, first, laid.lead, laid.until);
+    let units = put_argument::<S>(out, laid.put.end, rec, joint, start, base);
+    let end = put_end::<S>(out, units.put.end, rec, own, first, units.last, base);
     Laid {
-        bytes: k + end,
+        put: Put {
+            end,
+            next: units.put.next,
+        },
         lead: first,
-        until: last,
-        next: units.next,
+        until: units.last,
     }
 }
 
-// How many characters it has.
-fn element_len(rec: &[u8], from: usize, at: usize, lead: usize, until: usize, base: u8) -> Laid
-    requires { ElementFits rec.now from at lead until base most_length }
-    ensures { ElementLen rec.now from at lead until base result }
+// Puts the value that stands there. A `loop`, since an element says where the next one stands.
+pub fn put_value<S: Sink>(out: &mut [u8], at: usize, rec: &[u8], from: usize, base: u8) -> Put
+    requires { ValueFits S.way rec.now from base at out.old }
+    ensures { PutValue S.way rec.now from base at out.old result out.new }
 {
-    let first = at + head_len(rec[at]);
-    let joint = joint_len(rec, from, at, first, lead, until);
-    let start = printed_from(joint, first, lead, until);
-    let units = units_len(rec, start, base);
-    let last = units.last;
-    let end = end_len(rec, at, first, last, base);
-    Laid {
-        bytes: joint + units.bytes + end,
-        lead: first,
-        until: last,
-        next: units.next,
-    }
-}
-
-// Writes the value that stands there.
-pub fn put_value(out: &mut [u8], rec: &[u8], from: usize, base: u8) -> Put
-    requires { ValueFits rec.now from base (length out.old) }
-    ensures { PutValue rec.now from base out.old result out.new }
-{
-    let mut at = from;
-    let mut k: usize = 0;
-    let mut lead = from;
-    let mut until = from;
+    let mut laid = Laid {
+        put: Put {
+            end: at,
+            next: from,
+        },
+        lead: from,
+        until: from,
+    };
     loop {
-        let laid = put_element(&mut out[k..], rec, from, at, lead, until, base);
-        k += laid.bytes;
-        lead = laid.lead;
-        until = laid.until;
-        at = laid.next;
-        if record_walk::tag_at(rec, at) < record_walk::SINGLE {
-            return Put { bytes: k, next: at };
-        }
-    }
-}
-
-// How many characters it has.
-pub fn value_len(rec: &[u8], from: usize, base: u8) -> Put
-    requires { ValueFits rec.now from base most_length }
-    ensures { ValueLen rec.now from base result }
-{
-    let mut at = from;
-    let mut k: usize = 0;
-    let mut lead = from;
-    let mut until = from;
-    loop {
-        let laid = element_len(rec, from, at, lead, until, base);
-        k += laid.bytes;
-        lead = laid.lead;
-        until = laid.until;
-        at = laid.next;
-        if record_walk::tag_at(rec, at) < record_walk::SINGLE {
-            return Put { bytes: k, next: at };
+        laid = put_element::<S>(out, rec, from, laid, base);
+        if record_walk::tag_at(rec, laid.put.next) < Tag::Single as u8 {
+            return laid.put;
         }
     }
 }

@@ -11,14 +11,13 @@ use Rattle.rules.specs.Refusals.{Res, ok, bad, map_r, too_long, no_room, not_wel
 use Rattle.rules.specs.Commands.{Command}
 use Rattle.rules.specs.Records.{head_size}
 use Rattle.rules.specs.WellFormed.{record_of, body_of, well_formed_body}
-use Rattle.rules.specs.Answers.{answered, buffered, fitted, printed, printing, Prints}
+use Rattle.rules.specs.Answers.{Answer, answered, buffered, fitted, printed, printing, Prints}
+use Rattle.rules.specs.Reasons.{refusal}
+use Rattle.std.proofs.Common.{Option, Some, None, Ok, Err}
 use Rattle.rules.specs.Printing.{print}
-use Rattle.rules.specs.declared.Answer.{Answer}
-use Rattle.rules.specs.declared.Answer.TheVariants.{Done, Refused}
 use Rattle.rules.proofs.EncodeDecode.{record_room, record_part}
 use Rattle.rules.proofs.TextBound.{body_bound}
 use Rattle.judge.specs.declared.Judged.{Judged}
-use Rattle.judge.specs.declared.Judged.TheVariants.{Good, Bad}
 use Rattle.judge.specs.Judged.{IsGood, Judges}
 use Rattle.print_bound.specs.Bounds.{TextWithin}
 use Rattle.print_text.specs.Texts.{text_of}
@@ -43,27 +42,27 @@ module _ (text old : List ℕ) where
   promised : (result : Res (List ℕ)) → fitted old (printed text) ≡ result → Gives text old (answered (map_r length result)) (buffered result old)
   promised result e = record { answers = rw e; holds = rw e }
 
-  pub answer_long : {n : ℕ} → n ≡ length text → most_text < n → Gives text old (Refused too_long most_text) old
+  pub answer_long : {n : ℕ} → n ≡ length text → most_text < n → Gives text old (Err (refusal too_long most_text)) old
   answer_long e k = promised (bad too_long most_text) (rw (lt-leb (length text) most_text (omega arith)))
 
-  pub answer_room : {n : ℕ} → n ≡ length text → n ≤ most_text → length old < n → Gives text old (Refused no_room n) old
+  pub answer_room : {n : ℕ} → n ≡ length text → n ≤ most_text → length old < n → Gives text old (Err (refusal no_room n)) old
   answer_room {n} e k l =
       promised (bad no_room n) (rw (le-leb (length text) most_text (omega arith), lt-leb (length text) (length old) (omega arith), e))
 
   pub answer_done : {new : List ℕ} {n most : ℕ} → most ≤ most_text → most ≤ length old → length text ≤ most → n ≡ length text → new ≡ over text old
-      → Gives text old (Done n) new
+      → Gives text old (Ok n) new
   answer_done k l m e o =
       rw (e, o) (promised (ok text) (rw (le-leb (length text) most_text (omega arith), le-leb (length text) (length old) (omega arith))))
 
   pub answer_measured : {new : List ℕ} {n k : ℕ} → n ≡ length text → n ≤ most_text → n ≤ length old → k ≡ length text → new ≡ over text old
-      → Gives text old (Done k) new
+      → Gives text old (Ok k) new
   answer_measured e k l = answer_done k l (omega arith)
 
 -- ---- what the judge said
 
-module _ (rec row told : List ℕ) {r : Judged} (j : Judges (record_of rec) row told r) where
-  module _ {n k : ℕ} (e : r ≡ Good n k) where
-    good : IsGood (record_of rec) row told n k
+module _ (rec row told : List ℕ) {r : Option Judged} (j : Judges (record_of rec) row told r) where
+  module _ {x : Judged} (e : r ≡ Some x) where
+    good : IsGood (record_of rec) row told x.places x.total
     good = subst (Judges (record_of rec) row told) e j
 
     pub head_room : head_size ≤ length rec
@@ -83,6 +82,6 @@ module _ (rec row told : List ℕ) {r : Judged} (j : Judges (record_of rec) row 
     unfolding printing
     judged_text {old} {new} {a} p = rw good.is (subst (λ (w : List ℕ). Gives w old a new) same_text p)
 
-  pub judged_bad : (old : List ℕ) → r ≡ Bad → Prints rec old (Refused not_well_formed 0) old
+  pub judged_bad : (old : List ℕ) → r ≡ None → Prints rec old (Err (refusal not_well_formed 0)) old
   unfolding printing
   judged_bad old e = let b = subst (Judges (record_of rec) row told) e j in record { answers = rw b; holds = rw b }

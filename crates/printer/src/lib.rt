@@ -7,8 +7,7 @@ ghost use Rattle.rules.specs.Answers.{Prints};
 ghost use Rattle.print_text.specs.Texts.{text_of};
 ghost use Rattle.printer.specs.Given.{Gives};
 
-use judge::Judged;
-use rules::Answer;
+use rules::{Answer, Reason};
 
 // Behind its head a record of at most so many bytes has a text of at most 1,024: a text has at most seven bytes for each byte there.
 const SHORT: usize = 146;
@@ -31,12 +30,12 @@ fn print_measured(rec: &[u8], out: &mut [u8]) -> Answer
 {
     let needed = print_text::text_len(rec);
     if rules::MOST_TEXT < needed {
-        return Answer::Refused(rules::TOO_LONG, rules::MOST_TEXT as u32);
+        return Err(Reason::TooLong.at(rules::MOST_TEXT as u32));
     }
     if out.len() < needed {
-        return Answer::Refused(rules::NO_ROOM, needed as u32);
+        return Err(Reason::NoRoom.at(needed as u32));
     }
-    Answer::Done(print_text::put_text(out, rec) as u32)
+    Ok(print_text::put_text(out, rec) as u32)
 }
 
 // Prints what stands behind the head of a record that is known to be well formed: it is written at once where the bound says that it fits, else it is measured first.
@@ -45,10 +44,8 @@ fn print_known(rec: &[u8], out: &mut [u8]) -> Answer
     ensures { Gives (text_of rec.now) out.old result out.new }
 {
     let most = most_of(rec);
-    if most <= rules::MOST_TEXT {
-        if most <= out.len() {
-            return Answer::Done(print_text::put_text(out, rec) as u32);
-        }
+    if most <= rules::MOST_TEXT && most <= out.len() {
+        return Ok(print_text::put_text(out, rec) as u32);
     }
     print_measured(rec, out)
 }
@@ -58,8 +55,6 @@ pub fn print(rec: &[u8], out: &mut [u8]) -> Answer
     ensures { Prints rec.now out.old result out.new }
 {
     let mut none = [0u16; 0];
-    match judge::judge(rec, &mut none) {
-        Judged::Good { places, total } => print_known(&rec[record_head::HEAD..], out),
-        Judged::Bad => Answer::Refused(rules::NOT_WELL_FORMED, 0),
-    }
+    judge::judge(rec, &mut none).ok_or(Reason::NotWellFormed.at(0))?;
+    print_known(&rec[record_head::HEAD..], out)
 }

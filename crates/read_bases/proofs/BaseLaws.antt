@@ -1,6 +1,6 @@
 -- A byte is the letter of a base exactly if it is one of the five, so the list is read letter by letter.
 use Prim.Native.Nat.{ℕ, suc, ◌+◌, ◌≤◌, ◌<◌}
-use mathlib.Core.Path.{◌≡◌, refl, sym, ap₂, ◌∙◌}
+use mathlib.Core.Path.{◌≡◌, refl, sym, ap, ap₂, ◌∙◌}
 use mathlib.Core.Bool.{Bool, true, false, false≢true}
 use mathlib.Core.List.{List, [], ◌∷◌}
 use mathlib.Core.Option.{none, some}
@@ -8,17 +8,18 @@ use native.Mathlib.Numerals.{add-one}
 use native.Mathlib.Omega.{arith}
 use borrow.Author.Tests.{eqb-true, le-ltb, lt-ltb}
 use lib.Dec.{ltb, eqb}
-use lib.ListN.{length, get_or, drop, length-map, drop_of_length-le, get_or-eq_default}
+use lib.ListN.{length, get_or, drop, drop_of_length-le}
 use Rattle.laws.specs.Cases.{by_bool, by_option, some_inj}
 use Rattle.laws.specs.Keys.{any_of}
-use Rattle.laws.specs.Lists.{next, get_d_map_lt}
+use Rattle.laws.specs.Lists.{next}
 use Rattle.rules.specs.Reading.{read_letters}
 use Rattle.rules.specs.Refusals.{ok}
-use Rattle.rules.specs.Units.{Base, plain, r_d, letter, base_of, base_at}
+use Rattle.rules.specs.Units.{Base, letter, base_of, base_at}
 use Rattle.rules.proofs.ResultLaws.{ok_inj, ok≢bad, map_ok}
-use Rattle.token_table.specs.Table.{verdict}
-use Rattle.token_table.specs.declared.Verdict.{Verdict}
-use Rattle.token_table.specs.declared.Verdict.TheVariants.{Fine, Refused}
+use Rattle.token_table.specs.Table.{Verdict, verdict}
+use Rattle.rules.specs.declared.Refusal.{Refusal}
+use Rattle.rules.specs.Reasons.{refusal}
+use Rattle.std.proofs.Common.{Ok, Err}
 use Rattle.token_table.proofs.AltLaws.{verdict_map}
 use Rattle.read_bases.specs.Bases.{base_letters, bases_in}
 
@@ -48,14 +49,15 @@ letter_none l y =
 
 -- the turns of `letters`
 module _ (ls : List ℕ) (i : ℕ) where
-  pub letters_end : {r : Verdict} → r ≡ verdict (read_letters i (drop i ls)) → length ls ≤ i → Fine ≡ r
+  pub letters_end : {r : Verdict} → r ≡ verdict (read_letters i (drop i ls)) → length ls ≤ i → Ok tt ≡ r
   letters_end q h = sym (q ∙ rw (drop_of_length-le ls h))
 
-  pub letters_many : {r : Verdict} → r ≡ verdict (read_letters i (drop i ls)) → i < length ls → 32 ≤ i → Refused 1 i ≡ r
-  letters_many q h g = sym (q ∙ rw (next ls i h, le-ltb i 32 g, read_letters))
+  pub letters_many : {r : Verdict} {x : Refusal} → r ≡ verdict (read_letters i (drop i ls)) → i < length ls → 32 ≤ i → x ≡ refusal 1 i → Err x ≡ r
+  letters_many q h g v = ap Err v ∙ sym (q ∙ rw (next ls i h, le-ltb i 32 g, read_letters))
 
-  pub letters_wrong : {f : Bool} {r : Verdict} → r ≡ verdict (read_letters i (drop i ls)) → i < length ls → i < 32 → f ≡ any_of base_letters (get_or ls i 0) → f ≡ false → Refused 1 i ≡ r
-  letters_wrong q h g e y = sym (q ∙ rw (next ls i h, lt-ltb i 32 g, read_letters, (letter_none (get_or ls i 0) (sym e ∙ y)).0))
+  pub letters_wrong : {f : Bool} {r : Verdict} {x : Refusal} → r ≡ verdict (read_letters i (drop i ls)) → i < length ls → i < 32 → f ≡ any_of base_letters (get_or ls i 0) → f ≡ false
+      → x ≡ refusal 1 i → Err x ≡ r
+  letters_wrong q h g e y v = ap Err v ∙ sym (q ∙ rw (next ls i h, lt-ltb i 32 g, read_letters, (letter_none (get_or ls i 0) (sym e ∙ y)).0))
 
   pub letters_more : {f : Bool} {r : Verdict} → r ≡ verdict (read_letters i (drop i ls)) → i < length ls → i < 32 → f ≡ any_of base_letters (get_or ls i 0) → f ≡ true
       → r ≡ verdict (read_letters (i + 1) (drop (i + 1) ls))
@@ -79,15 +81,3 @@ letters_are i (l ∷ ls) bs h =
         by_bool (any_of base_letters l)
         (λ y. some_inj (sym z ∙ (letter_is l y).0))
         (λ y. let w : ◌≡◌ {A = ℕ} 0 1 = cc (z, (letter_none l y).0) in absurd (omega arith))
-
--- ---- the n-th base
-
-module _ (ls : List ℕ) (n : ℕ) where
-  pub base_past : length ls ≤ n → 68 ≡ letter (get_or (bases_in ls) n (plain r_d))
-  base_past h = rw (get_or-eq_default (bases_in ls) (plain r_d) {n = n} (simp length-map h))
-
-  pub base_letter : {f : Bool} → n < length ls → f ≡ any_of base_letters (get_or ls n 0) → f ≡ true → get_or ls n 0 ≡ letter (get_or (bases_in ls) n (plain r_d))
-  base_letter h e y = sym (rw (get_d_map_lt base_at ls n 0 (plain r_d) h) (letter_is (get_or ls n 0) (sym e ∙ y)).1)
-
-  pub base_other : {f : Bool} → n < length ls → f ≡ any_of base_letters (get_or ls n 0) → f ≡ false → 68 ≡ letter (get_or (bases_in ls) n (plain r_d))
-  base_other h e y = sym (rw (get_d_map_lt base_at ls n 0 (plain r_d) h) (letter_none (get_or ls n 0) (sym e ∙ y)).1)

@@ -1,7 +1,8 @@
 -- A tally holds what the rules say of the places it has counted: their number, the bytes of their fields, and the running product.
 use Prim.Native.Nat.{ℕ, ◌+◌, ◌*◌}
 use mathlib.Core.Path.{◌≡◌, refl, sym, ◌∙◌}
-use mathlib.Core.Bool.{Bool, cond}
+use mathlib.Core.Bool.{Bool}
+use Rattle.std.proofs.Common.{Option, Some, None}
 use mathlib.Core.List.{List, [], ◌∷◌, map}
 use native.Mathlib.Omega.{arith}
 use lib.Dec.{leb}
@@ -10,12 +11,12 @@ use Rattle.laws.specs.Cases.{by_bool}
 use Rattle.rules.specs.Commands.{Place, place_count, all_places}
 use Rattle.rules.specs.Reading.{Placed, placed, unplaced, PlacedBlock, placed_block, block_of, running, running_blocks}
 use Rattle.rules.specs.Records.{bytes_of, many, place_fields, block_fields}
-use Rattle.rules.specs.Refusals.{Res, ok, bad, ◌>>=◌, too_many_orders}
+use Rattle.rules.specs.Refusals.{Res, ok, bad, ◌>>=◌, too_many_orders, most_orders}
 use Rattle.token_table.specs.Parts.{capped}
 use Rattle.token_table.proofs.WordLaws.{cap_cap}
 use Rattle.read_place.specs.Places.{place_size}
 use Rattle.read_place.proofs.PlaceLaws.{bytes_length, cap_right}
-use Rattle.read_command.specs.Blocks.{counted, opened, tally_places, tally_blocks}
+use Rattle.read_command.specs.Blocks.{product_with, over_with, counted, opened, tally_places, tally_blocks}
 use Rattle.read_command.specs.declared.Tally.{Tally}
 
 -- ---- the number of places
@@ -33,18 +34,29 @@ places_blocks t (placed_block k xs ∷ bs) =
 -- ---- the running product
 
 -- the product, or the first value where it passed the limit
+abbrev pub orders_by : Option ℕ → ℕ → Res ℕ
+orders_by (Some p) n = bad too_many_orders p
+orders_by None n = ok n
+
 abbrev pub orders_of : Tally → Res ℕ
-orders_of t = cond t.over (bad too_many_orders t.at) (ok t.product)
+orders_of t = orders_by t.over t.product
 
 orders_one : (t : Tally) (p : ℕ) (x : Place) (z : ℕ) (xs : List Placed)
     → (orders_of (counted t (place_count x) p z) >>= λ m. running m xs) ≡ (orders_of t >>= λ m. running m (placed p x ∷ xs))
-orders_one t p x z xs =
-    by_bool t.over
-    (λ y. rw y)
-    (λ y. by_bool (leb (t.product * place_count x) 65535) (λ h. rw (y, h, running)) (λ h. rw (y, h, running)))
+orders_one t p x z xs = go t.over
+  where
+    go : (o : Option ℕ)
+        → (orders_by (over_with o (leb (t.product * place_count x) most_orders) p) (product_with o (leb (t.product * place_count x) most_orders) t.product (t.product * place_count x)) >>= λ m. running m xs)
+        ≡ (orders_by o t.product >>= λ m. running m (placed p x ∷ xs))
+    go (Some q) = refl
+    go None = by_bool (leb (t.product * place_count x) 65535) (λ h. rw (h, running)) (λ h. rw (h, running))
+
+started : (r : Res ℕ) → r ≡ (r >>= λ m. running m [])
+started (ok m) = refl
+started (bad n p) = refl
 
 pub orders_places : (t : Tally) (xs : List Placed) → orders_of (tally_places t xs) ≡ (orders_of t >>= λ m. running m xs)
-orders_places t [] = by_bool t.over (λ y. rw y) (λ y. rw y)
+orders_places t [] = started (orders_of t)
 orders_places t (placed p x ∷ xs) =
     orders_places (counted t (place_count x) p (capped (place_size x))) xs ∙ orders_one t p x (capped (place_size x)) xs
 
@@ -53,8 +65,12 @@ bind_bind : (r : Res ℕ) (xs : List Placed) (k : Bool) (bs : List PlacedBlock)
 bind_bind (ok m) xs k bs = refl
 bind_bind (bad n p) xs k bs = refl
 
+begun_blocks : (r : Res ℕ) → r ≡ (r >>= λ m. running_blocks m [])
+begun_blocks (ok m) = refl
+begun_blocks (bad n p) = refl
+
 pub orders_blocks : (t : Tally) (bs : List PlacedBlock) → orders_of (tally_blocks t bs) ≡ (orders_of t >>= λ m. running_blocks m bs)
-orders_blocks t [] = by_bool t.over (λ y. rw y) (λ y. rw y)
+orders_blocks t [] = begun_blocks (orders_of t)
 orders_blocks t (placed_block k xs ∷ bs) =
     orders_blocks (tally_places (opened t) xs) bs ∙ rw (orders_places (opened t) xs) (bind_bind (orders_of t) xs k bs)
 

@@ -18,6 +18,9 @@ use Rattle.read_joins.specs.Joins.{joins_in, kind_at, units_from, groups_at, das
 use Rattle.read_joins.specs.Answers.{element_answer, ArgEnd}
 use Rattle.read_elements.specs.Shapes.{Later, group_at}
 use Rattle.read_joins.specs.declared.Shape.{Shape}
+use Rattle.std.proofs.Common.{Result}
+use Rattle.rules.specs.declared.Refusal.{Refusal}
+use Rattle.token_table.specs.declared.Token.{Token as Entry}
 use Rattle.read_joins.proofs.JoinLaws.{joins_length, group_end, group_more, groups_next, begins_next, dashes_inside, units_length}
 use Rattle.read_elements.proofs.WalkLaws.{elements_later, elements_long, starts_first}
 use Rattle.read_elements.proofs.StandLaws.{front_at, Stands, later_stands}
@@ -31,7 +34,7 @@ pub record Between (js : List (Join Unit)) (k : ℕ) (done : List Element) (n f 
   pub short : k ≤ 3
   pub inside : f + k < length js
 
-pub between_none : (b : ℕ) (cs ts : List ℕ) (es : List Element) {q : ℕ} → 0 < length ts → elements (groups_of (collect (joins_in b cs ts))) ≡ ok es → ArgEnd ts 1 q
+pub between_none : (b : ℕ) (cs : List ℕ) (ts : List Entry) (es : List Element) {q : ℕ} → 0 < length ts → elements (groups_of (collect (joins_in b cs ts))) ≡ ok es → ArgEnd ts 1 q
     → Between (joins_in b cs ts) (q - 1) [] 0 0
 between_none b cs ts es {q} h e a =
     let js = joins_in b cs ts in
@@ -90,6 +93,6 @@ module _ (js : List (Join Unit)) {k : ℕ} {done : List Element} {n f : ℕ} (b 
       (λ y. ok≢bad (rw (y, later_elements) at g))
 
 -- the code's answer for it
-pub turn_answer : (js : List (Join Unit)) {k : ℕ} {done : List Element} {n f : ℕ} {x : Shape} (t : Turn js k done n f) → Later js k n x
+pub turn_answer : (js : List (Join Unit)) {k : ℕ} {done : List Element} {n f : ℕ} {x : Result Shape Refusal} (t : Turn js k done n f) → Later js k n x
     → x ≡ element_answer (next_at js (n + 1)) (ok t.el)
 turn_answer js {k} {done} {n} {f} t y = y (units_from js f k) (units_length k js f) ∙ rw t.is

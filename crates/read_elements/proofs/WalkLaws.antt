@@ -1,7 +1,7 @@
 -- The walk: at every turn the elements behind those counted are the rules' elements from the n-th unit on.
-use Prim.Native.Nat.{ℕ, suc, ◌+◌, ◌-◌, ◌*◌, ◌^◌, ◌≤◌, ◌<◌}
+use Prim.Native.Nat.{ℕ, suc, ◌+◌, ◌-◌, ◌*◌, ◌/◌, ◌^◌, ◌≤◌, ◌<◌}
 use mathlib.Core.Path.{◌≡◌, refl, sym, ◌∙◌, ap, ap₂, subst}
-use mathlib.Core.Bool.{true, false, false≢true}
+use mathlib.Core.Bool.{true}
 use mathlib.Core.List.{List, [], ◌∷◌, map}
 use native.Mathlib.Omega.{arith}
 use native.Mathlib.Nat.{add-zero}
@@ -17,16 +17,17 @@ use Rattle.rules.specs.Refusals.{Res, ok, bad, map_r, group_broken, too_many}
 use Rattle.rules.specs.Tokens.{sep_code, amp_}
 use Rattle.rules.specs.Units.{Unit}
 use Rattle.rules.proofs.ResultLaws.{by_res}
-use Rattle.token_table.specs.Table.{kind_in}
 use Rattle.read_joins.specs.Joins.{joins_in, kind_at, unit_at, units_from, inner_at, groups_at, dashes_at, next_at, count, sep_kind, sep_place, begins_kind}
-use Rattle.read_joins.specs.Answers.{element_answer, ArgEnd}
+use Rattle.read_joins.specs.Answers.{element_answer, next_of, more_of, ArgEnd}
 use Rattle.read_elements.specs.Shapes.{Later, group_at}
 use Rattle.read_joins.specs.declared.Shape.{Shape}
-use Rattle.read_joins.specs.declared.Shape.TheVariants.{Refused}
-use Rattle.read_elements.specs.Walk.{step_of, value_answer}
-use Rattle.read_elements.specs.declared.Step.{Step}
+use Rattle.read_joins.specs.declared.Shape.TheVariants.{Single, Range}
+use Rattle.std.proofs.Common.{Result, Ok, Err}
+use Rattle.rules.specs.declared.Refusal.{Refusal}
+use Rattle.rules.specs.Reasons.{refusal}
+use Rattle.token_table.specs.declared.Token.{Token as Entry}
+use Rattle.read_elements.specs.Walk.{value_answer}
 use Rattle.read_elements.specs.declared.Value.{Value}
-use Rattle.read_elements.specs.declared.Value.TheVariants.{Elements, Refused as RefusedValue}
 use Rattle.read_joins.proofs.JoinLaws.{joins_length, kind_is, sep_place_is, group_end, group_more, groups_next, begins_next, dash_inside, dash_end, full_at, units_length}
 use Rattle.read_elements.proofs.KeepLaws.{Keeps, upper_keeps}
 use Rattle.read_elements.proofs.ElementLaws.{inner_sep}
@@ -61,7 +62,7 @@ first_later js h k =
     let d = dashes_at js 1 in
     rw (full_at js 0, units_length d js 0, le-leb d 3 h, first_arg, ne_eqb (kind_at js 0) 2 k, later, full_at js 0, units_length d js 0, eq-eqb d d refl, later_arg)
 
-module _ (b : ℕ) (cs ts : List ℕ) where
+module _ (b : ℕ) (cs : List ℕ) (ts : List Entry) where
   groups_all : groups_at (joins_in b cs ts) 0 ≡ groups_of (collect (joins_in b cs ts))
   unfolding groups_at
   groups_all = refl
@@ -96,79 +97,80 @@ module _ (b : ℕ) (cs ts : List ℕ) where
 
 -- ---- a value of one unit is one element
 
-pub one_element : (b : ℕ) (cs ts : List ℕ) → length ts ≡ 1 → elements (groups_of (collect (joins_in b cs ts))) ≡ ok (single [] (unit_at (joins_in b cs ts) 0) ∷ [])
-unfolding joins_in unit_at kind_in
+pub one_element : (b : ℕ) (cs : List ℕ) (ts : List Entry) → length ts ≡ 1 → elements (groups_of (collect (joins_in b cs ts))) ≡ ok (single [] (unit_at (joins_in b cs ts) 0) ∷ [])
+unfolding joins_in unit_at
 one_element b cs [] h = absurd (omega arith)
 one_element b cs (t ∷ []) h = refl
 one_element b cs (t ∷ u ∷ ts) h = absurd (omega arith)
 
-pub one_answer : (b : ℕ) (cs ts : List ℕ) → length ts ≡ 1 → Elements 1 1 ≡ value_answer (elements (groups_of (collect (joins_in b cs ts))))
+pub one_answer : (b : ℕ) (cs : List ℕ) (ts : List Entry) → length ts ≡ 1 → Ok (record { count = 1; args = 1 }) ≡ value_answer (elements (groups_of (collect (joins_in b cs ts))))
 one_answer b cs ts h = rw (one_element b cs ts h)
 
 -- ---- a step's answer and the rules' element
 
-terms_of_lem : (n : ℕ) (e : Element) → (step_of (element_answer n (ok e))).more + 1 ≡ terms e
-terms_of_lem n (single l u) = refl
-terms_of_lem n (range l r lo up inc) = refl
+-- what an answer tells of the element that it is
+pub answer_next : (n : ℕ) (e : Element) {x : Shape} → Ok x ≡ element_answer n (ok e) → next_of x ≡ n
+answer_next n (single l u) {x} h = let q : x ≡ Single n = cc in rw q
+answer_next n (range l r lo up inc) {x} h = let q : x ≡ Range up inc ((up - lo) / inc) n = cc in rw q
 
-pub next_of : (n : ℕ) (e : Element) → (step_of (element_answer n (ok e))).next ≡ n
-next_of n (single l u) = refl
-next_of n (range l r lo up inc) = refl
+pub answer_more : (n : ℕ) (e : Element) {x : Shape} → Ok x ≡ element_answer n (ok e) → more_of x + 1 ≡ terms e
+answer_more n (single l u) {x} h = let q : x ≡ Single n = cc in rw q
+answer_more n (range l r lo up inc) {x} h = let q : x ≡ Range up inc ((up - lo) / inc) n = cc in rw q
 
-ok_of : (n : ℕ) (e : Element) → (step_of (element_answer n (ok e))).ok ≡ true
-ok_of n (single l u) = refl
-ok_of n (range l r lo up inc) = refl
+answer_fine : {C : Type 0} (n : ℕ) (e : Element) {r : Refusal} → Err r ≡ element_answer n (ok e) → C
+answer_fine n (single l u) h = absurd cc
+answer_fine n (range l r lo up inc) h = absurd cc
 
 pub next_from : (js : List (Join Unit)) (n : ℕ) → n ≤ next_at js n
 unfolding next_at
 next_from js n = omega arith
 
 -- an element that was found
-record Found (js : List (Join Unit)) (l : List Unit) (n : ℕ) (s : Step) : Type 0 where
+record Found (js : List (Join Unit)) (l : List Unit) (n : ℕ) (x : Shape) : Type 0 where
   el : Element
   is : later l (group_at js n) ≡ ok el
-  next : s.next ≡ next_at js (n + 1)
-  size : s.more + 1 ≡ terms el
+  next : next_of x ≡ next_at js (n + 1)
+  size : more_of x + 1 ≡ terms el
   long : length (leading el) ≡ length l
 
-module _ (js : List (Join Unit)) (l : List Unit) (k n : ℕ) {x : Shape} {s : Step} (h : length l ≡ k) (y : Later js k n x) (q : s ≡ step_of x) where
-  answer : s ≡ step_of (element_answer (next_at js (n + 1)) (later l (group_at js n)))
-  answer = q ∙ ap step_of (y l h)
-
-  found : s.ok ≡ true → Found js l n s
-  found o =
+module _ (js : List (Join Unit)) (l : List Unit) (k n : ℕ) (h : length l ≡ k) where
+  found : {x : Shape} → Later js k n (Ok x) → Found js l n x
+  found {x} y =
       by_res (later l (group_at js n))
       (λ el t.
-      let v : s ≡ step_of (element_answer (next_at js (n + 1)) (ok el)) = answer ∙ rw t in
+      let v : Ok x ≡ element_answer (next_at js (n + 1)) (ok el) = y l h ∙ rw t in
       record {
         el = el;
         is = t;
-        next = rw v (next_of (next_at js (n + 1)) el);
-        size = rw v (terms_of_lem (next_at js (n + 1)) el);
+        next = answer_next (next_at js (n + 1)) el v;
+        size = answer_more (next_at js (n + 1)) el v;
         long = subst (LeadLong (length l)) t (later_long l (group_at js n));
       })
-      (λ nr p t. let v : s ≡ step_of (Refused nr p) = answer ∙ rw t in absurd (false≢true (sym (ap (λ r. r.ok) v) ∙ o)))
+      (λ nr p t. let v : Ok x ≡ Err (refusal nr p) = y l h ∙ rw t in absurd cc)
 
-  missed : s.ok ≡ false → later l (group_at js n) ≡ bad s.no s.place
-  missed o =
+  missed : {C : Type 0} {r : Refusal} → Later js k n (Err r) → ((nr p : ℕ) → later l (group_at js n) ≡ bad nr p → r ≡ refusal nr p → C) → C
+  missed {C} {r} y f =
       by_res (later l (group_at js n))
-      (λ el t. let v : s ≡ step_of (element_answer (next_at js (n + 1)) (ok el)) = answer ∙ rw t in
-      absurd (false≢true (sym o ∙ (ap (λ r. r.ok) v ∙ ok_of (next_at js (n + 1)) el))))
-      (λ nr p t. let v : s ≡ step_of (Refused nr p) = answer ∙ rw t in t ∙ sym (ap₂ bad (ap (λ r. r.no) v) (ap (λ r. r.place) v)))
+      (λ el t. answer_fine (next_at js (n + 1)) el (y l h ∙ rw t))
+      (λ nr p t. let v : Err r ≡ element_answer (next_at js (n + 1)) (bad nr p) = y l h ∙ rw t in f nr p t cc)
 
 -- ---- the invariant
 
+-- an answer
+abbrev counted : ℕ → ℕ → Result Value Refusal
+counted c a = Ok (record { count = c; args = a })
+
 -- the answer where c elements of a arguments come before
-abbrev more_answer : ℕ → ℕ → Res (List Element) → Value
-more_answer c a (ok es) = Elements (c + length es) (a + sum (map terms es))
-more_answer c a (bad k p) = RefusedValue k p
+abbrev more_answer : ℕ → ℕ → Res (List Element) → Result Value Refusal
+more_answer c a (ok es) = Ok (record { count = c + length es; args = a + sum (map terms es) })
+more_answer c a (bad k p) = Err (refusal k p)
 
 more_none : (r : Res (List Element)) → value_answer r ≡ more_answer 0 0 r
-more_none (ok es) = ap₂ Elements (omega arith) (omega arith)
+more_none (ok es) = ap₂ counted (omega arith) (omega arith)
 more_none (bad n p) = refl
 
 more_cons : (c a : ℕ) (e : Element) (r : Res (List Element)) → more_answer c a (map_r (λ es. e ∷ es) r) ≡ more_answer (suc c) (a + terms e) r
-more_cons c a e (ok es) = ap₂ Elements (omega arith) (omega arith)
+more_cons c a e (ok es) = ap₂ counted (omega arith) (omega arith)
 more_cons c a e (bad n p) = refl
 
 one_step : (js : List (Join Unit)) (l : List Unit) (c a n : ℕ) (el : Element) (nx mo : ℕ) → c < 64 → groups_at js n ≡ group_at js n ∷ groups_at js (n + 1)
@@ -185,7 +187,7 @@ pub record Walking (js : List (Join Unit)) (k n c a : ℕ) : Type 0 where
   pub few : c ≤ 64
   pub small : a ≤ c * 4294967296
 
-module _ (b : ℕ) (cs ts : List ℕ) where
+module _ (b : ℕ) (cs : List ℕ) (ts : List Entry) where
   pub walking_none : {q : ℕ} → ArgEnd ts 1 q → q - 1 ≤ 3 → Walking (joins_in b cs ts) (q - 1) 0 0 0
   walking_none {q} a h =
       let js = joins_in b cs ts in
@@ -199,11 +201,11 @@ module _ (b : ℕ) (cs ts : List ℕ) where
         small = omega arith;
       }
 
-  pub walking_long : {q p : ℕ} → ArgEnd ts 1 q → 3 < q - 1 → p ≡ sep_place ts 4 → RefusedValue group_broken p ≡ value_answer (elements (groups_of (collect (joins_in b cs ts))))
-  walking_long a h v = rw (elements_long b cs ts (omega (arith, a b cs)), v)
+  pub walking_long : {q p : ℕ} {x : Refusal} → ArgEnd ts 1 q → 3 < q - 1 → p ≡ sep_place ts 4 → x ≡ refusal group_broken p → Err x ≡ value_answer (elements (groups_of (collect (joins_in b cs ts))))
+  walking_long a h v x = rw (x, elements_long b cs ts (omega (arith, a b cs)), v)
 
-module _ (b : ℕ) (cs ts : List ℕ) {k n c a : ℕ} (w : Walking (joins_in b cs ts) k n c a) where
-  pub walking_end : {m : ℕ} → m ≡ count ts → m ≤ n → Elements c a ≡ value_answer (elements (groups_of (collect (joins_in b cs ts))))
+module _ (b : ℕ) (cs : List ℕ) (ts : List Entry) {k n c a : ℕ} (w : Walking (joins_in b cs ts) k n c a) where
+  pub walking_end : {m : ℕ} → m ≡ count ts → m ≤ n → Ok (record { count = c; args = a }) ≡ value_answer (elements (groups_of (collect (joins_in b cs ts))))
   walking_end e h =
       let g = group_end (joins_in b cs ts) n (omega (arith, joins_length b cs ts)) in
       sym (w.is ∙ rw (g, add-zero c, add-zero a))
@@ -211,26 +213,28 @@ module _ (b : ℕ) (cs ts : List ℕ) {k n c a : ℕ} (w : Walking (joins_in b c
   here : {m : ℕ} → m ≡ count ts → n < m → groups_at (joins_in b cs ts) n ≡ group_at (joins_in b cs ts) n ∷ groups_at (joins_in b cs ts) (n + 1)
   here e h = group_more (joins_in b cs ts) n (omega (arith, joins_length b cs ts)) w.starts
 
-  pub walking_many : {m p : ℕ} → m ≡ count ts → n < m → 64 ≤ c → p ≡ sep_place ts n → RefusedValue too_many p ≡ value_answer (elements (groups_of (collect (joins_in b cs ts))))
-  walking_many e h f v = sym (w.is ∙ rw (here e h, lt-leb (suc c) 64 (omega arith), later_elements, sep_place_is b cs ts n, v))
+  pub walking_many : {m p : ℕ} {x : Refusal} → m ≡ count ts → n < m → 64 ≤ c → p ≡ sep_place ts n → x ≡ refusal too_many p → Err x ≡ value_answer (elements (groups_of (collect (joins_in b cs ts))))
+  walking_many e h f v x = rw x (sym (w.is ∙ rw (here e h, lt-leb (suc c) 64 (omega arith), later_elements, sep_place_is b cs ts n, v)))
 
-  module _ {m : ℕ} {x : Shape} {s : Step} (e : m ≡ count ts) (h : n < m) (y : Later (joins_in b cs ts) k n x) (q : s ≡ step_of x) where
-    pub walking_bad : c < 64 → s.ok ≡ false → RefusedValue s.no s.place ≡ value_answer (elements (groups_of (collect (joins_in b cs ts))))
-    walking_bad f o =
-        sym (w.is ∙ rw (here e h, le-leb (suc c) 64 (omega arith), later_elements, missed (joins_in b cs ts) w.l k n w.long y q o))
+  module _ {m : ℕ} (e : m ≡ count ts) (h : n < m) where
+    pub walking_bad : {r : Refusal} → Later (joins_in b cs ts) k n (Err r) → c < 64 → Err r ≡ value_answer (elements (groups_of (collect (joins_in b cs ts))))
+    walking_bad y f =
+        missed (joins_in b cs ts) w.l k n w.long y
+        (λ nr p t q. ap Err q ∙ sym (w.is ∙ rw (here e h, le-leb (suc c) 64 (omega arith), later_elements, t)))
 
-    pub walking_more : c < 64 → s.ok ≡ true → s.more < 2 ^ 32 → Walking (joins_in b cs ts) k s.next (c + 1) (a + (s.more + 1))
-    walking_more f o sm =
+    pub walking_more : {x : Shape} {nx mo : ℕ} → Later (joins_in b cs ts) k n (Ok x) → c < 64 → nx ≡ next_of x → mo ≡ more_of x → mo < 2 ^ 32
+        → Walking (joins_in b cs ts) k nx (c + 1) (a + (mo + 1))
+    walking_more {x} {nx} {mo} y f en em sm =
         let js = joins_in b cs ts in
-        let v = found js w.l k n w.long y q o in
+        let v = found js w.l k n w.long y in
         record {
           l = leading v.el;
           long = v.long ∙ w.long;
-          is = w.is ∙ one_step js w.l c a n v.el s.next s.more f (here e h) v.is v.next v.size;
-          starts = rw v.next (begins_next js (n + 1));
+          is = w.is ∙ one_step js w.l c a n v.el nx mo f (here e h) v.is (en ∙ v.next) (omega (arith, v.size));
+          starts = rw (en ∙ v.next) (begins_next js (n + 1));
           few = omega arith;
           small = omega (arith, w.small);
         }
 
-    pub walking_less : s.ok ≡ true → count ts - s.next < count ts - n
-    walking_less o = let v = found (joins_in b cs ts) w.l k n w.long y q o in omega (arith, v.next, next_from (joins_in b cs ts) (n + 1))
+    pub walking_less : {x : Shape} {nx : ℕ} → Later (joins_in b cs ts) k n (Ok x) → nx ≡ next_of x → count ts - nx < count ts - n
+    walking_less y en = let v = found (joins_in b cs ts) w.l k n w.long y in omega (arith, en ∙ v.next, next_from (joins_in b cs ts) (n + 1))

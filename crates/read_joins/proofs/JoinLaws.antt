@@ -14,19 +14,20 @@ use Rattle.laws.specs.Cases.{by_bool}
 use Rattle.rules.specs.Groups.{Join, join, group, begins_j, Collected, collected, collect, collect_one, groups_of, arg, full_arg}
 use Rattle.rules.specs.Tokens.{sep_code}
 use Rattle.rules.specs.Units.{Unit, text}
+use Rattle.token_table.specs.declared.Token.{Token as Entry}
 use Rattle.token_table.specs.Table.{kind_in, place_in}
 use Rattle.token_table.proofs.AltLaws.{sep_code_lem}
-use Rattle.read_joins.specs.Joins.{unit_in, join_kind, join_sep, joined, joins_in, no_join, sep_of_j, sep_place_of_j, place_of_j, unit_of_j, sep_at, kind_at, sep_place_at}
+use Rattle.read_joins.specs.Joins.{unit_in, join_kind, join_sep, first_amp, no_token, joined, joins_in, no_join, sep_of_j, sep_place_of_j, place_of_j, unit_of_j, sep_at, kind_at, sep_place_at}
 use Rattle.read_joins.specs.Joins.{place_at, unit_at, pre_of, inner_at, groups_at, units_from, dashes, dashes_at, next_at, count, sep_kind, sep_place, unit_place, begins_kind}
 
 module _ (b : ℕ) (cs : List ℕ) where
-  joined_length : (us : List ℕ) → length (joined b cs us) ≡ length us / 2
+  joined_length : (us : List Entry) → length (joined b cs us) ≡ length us / 2
   joined_length [] = refl
   joined_length (u ∷ []) = refl
   joined_length (u ∷ t ∷ us) = let i : length (joined b cs us) ≡ length us / 2 = joined_length us in omega arith
 
-  joined_at : (us : List ℕ) (n : ℕ) → n + n + 1 < length us
-      → get_or (joined b cs us) n no_join ≡ join (join_sep (get_or us (n + n) 0)) (place_in (get_or us (n + n) 0)) (place_in (get_or us (n + n + 1) 0)) (unit_in b cs (get_or us (n + n + 1) 0))
+  joined_at : (us : List Entry) (n : ℕ) → n + n + 1 < length us
+      → get_or (joined b cs us) n no_join ≡ join (join_sep (get_or us (n + n) no_token)) (place_in (get_or us (n + n) no_token)) (place_in (get_or us (n + n + 1) no_token)) (unit_in b cs (get_or us (n + n + 1) no_token))
   joined_at [] n h = absurd (omega arith)
   joined_at (u ∷ []) n h = absurd (omega arith)
   joined_at (u ∷ t ∷ us) zero h = refl
@@ -35,43 +36,43 @@ module _ (b : ℕ) (cs : List ℕ) where
       let q1 : suc n + suc n + 1 ≡ suc (suc (n + n + 1)) = omega arith in
       rw (q1, q) (joined_at us n (omega arith))
 
-  pub joins_length : (ts : List ℕ) → length (joins_in b cs ts) ≡ count ts
+  pub joins_length : (ts : List Entry) → length (joins_in b cs ts) ≡ count ts
   unfolding joins_in
-  joins_length ts = joined_length (3 ∷ ts) ∙ omega arith
+  joins_length ts = joined_length (first_amp ∷ ts) ∙ omega arith
 
-cons_at : (x : ℕ) (ts : List ℕ) (k : ℕ) → 0 < k → get_or (x ∷ ts) k 0 ≡ get_or ts (k - 1) 0
+cons_at : (x : Entry) (ts : List Entry) (k : ℕ) → 0 < k → get_or (x ∷ ts) k no_token ≡ get_or ts (k - 1) no_token
 cons_at x ts zero h = absurd (omega arith)
 cons_at x ts (suc k) h = let q : suc k - 1 ≡ k = omega arith in rw q
 
-joins_at : (b : ℕ) (cs ts : List ℕ) (n : ℕ) → n < count ts
-    → get_or (joins_in b cs ts) n no_join ≡ join (join_sep (get_or (3 ∷ ts) (n + n) 0)) (place_in (get_or (3 ∷ ts) (n + n) 0)) (place_in (get_or ts (n + n) 0)) (unit_in b cs (get_or ts (n + n) 0))
+joins_at : (b : ℕ) (cs : List ℕ) (ts : List Entry) (n : ℕ) → n < count ts
+    → get_or (joins_in b cs ts) n no_join ≡ join (join_sep (get_or (first_amp ∷ ts) (n + n) no_token)) (place_in (get_or (first_amp ∷ ts) (n + n) no_token)) (place_in (get_or ts (n + n) no_token)) (unit_in b cs (get_or ts (n + n) no_token))
 unfolding joins_in
-joins_at b cs ts n h = joined_at b cs (3 ∷ ts) n (omega arith) ∙ rw (add-one (n + n))
+joins_at b cs ts n h = joined_at b cs (first_amp ∷ ts) n (omega arith) ∙ rw (add-one (n + n))
 
 join_kind_small : (k : ℕ) → join_kind k < 10
 join_kind_small k = by_bool (leb k 5) (λ y. rw y (omega (arith, leb-true k 5 y))) (λ y. rw y (omega arith))
 
-module _ (b : ℕ) (cs ts : List ℕ) (n : ℕ) where
+module _ (b : ℕ) (cs : List ℕ) (ts : List Entry) (n : ℕ) where
   past : count ts ≤ n → get_or (joins_in b cs ts) n no_join ≡ no_join
   past h = get_or-eq_default (joins_in b cs ts) no_join (omega (arith, joins_length b cs ts))
 
   pub kind_is : kind_at (joins_in b cs ts) n ≡ sep_kind ts n
-  unfolding sep_at sep_kind kind_in
+  unfolding sep_at sep_kind
   kind_is =
       by_bool (ltb n (count ts))
       (λ y. let h = ltb-true n (count ts) y in by_bool (eqb n 0)
       (λ z. let e = eqb-true n 0 z in let h0 : 0 < count ts = omega arith in rw (e, joins_at b cs ts 0 h0))
       (λ z. let e = eqb-false n 0 z in
-      rw (joins_at b cs ts n h, cons_at 3 ts (n + n) (omega arith), sep_code_lem (join_kind (kind_in (get_or ts (n + n - 1) 0))) (join_kind_small (kind_in (get_or ts (n + n - 1) 0))), z, y)))
+      rw (joins_at b cs ts n h, cons_at first_amp ts (n + n) (omega arith), sep_code_lem (join_kind (kind_in (get_or ts (n + n - 1) no_token))) (join_kind_small (kind_in (get_or ts (n + n - 1) no_token))), z, y)))
       (λ y. let h = past (ltb-false n (count ts) y) in by_bool (eqb n 0) (λ z. rw (h, z)) (λ z. rw (h, z, y)))
 
   pub sep_place_is : sep_place_at (joins_in b cs ts) n ≡ sep_place ts n
-  unfolding sep_place_at sep_place place_in
+  unfolding sep_place_at sep_place
   sep_place_is =
       by_bool (ltb n (count ts))
       (λ y. let h = ltb-true n (count ts) y in by_bool (eqb n 0)
       (λ z. let e = eqb-true n 0 z in let h0 : 0 < count ts = omega arith in rw (e, joins_at b cs ts 0 h0))
-      (λ z. let e = eqb-false n 0 z in rw (joins_at b cs ts n h, cons_at 3 ts (n + n) (omega arith), z, y)))
+      (λ z. let e = eqb-false n 0 z in rw (joins_at b cs ts n h, cons_at first_amp ts (n + n) (omega arith), z, y)))
       (λ y. let h = past (ltb-false n (count ts) y) in by_bool (eqb n 0) (λ z. rw (h, z)) (λ z. rw (h, z, y)))
 
   pub place_is : place_at (joins_in b cs ts) n ≡ unit_place ts n
@@ -81,7 +82,7 @@ module _ (b : ℕ) (cs ts : List ℕ) (n : ℕ) where
       (λ y. rw (joins_at b cs ts n (ltb-true n (count ts) y), y))
       (λ y. rw (past (ltb-false n (count ts) y), y))
 
-  pub unit_in_lem : n < count ts → unit_at (joins_in b cs ts) n ≡ unit_in b cs (get_or ts (n + n) 0)
+  pub unit_in_lem : n < count ts → unit_at (joins_in b cs ts) n ≡ unit_in b cs (get_or ts (n + n) no_token)
   unfolding unit_at
   unit_in_lem h = rw (joins_at b cs ts n h)
 

@@ -5,6 +5,8 @@ use Rattle.rules.specs.Refusals.{Res, ok, bad, unreadable}
 use Rattle.rules.specs.Tokens.{Lex, word, str, sep, Sep, amp, amp_, dash, sep_code}
 use Rattle.rules.specs.Units.{Unit, text}
 use Rattle.units.specs.Words.{unit_under, read_as}
+use Rattle.token_table.specs.declared.Kind.TheVariants.{AmpAmpDash, Amp}
+use Rattle.token_table.specs.declared.Token.{Token as Entry}
 use Rattle.token_table.specs.Table.{kind_in, place_in, content_in, lex_of_kind, sep_of}
 
 -- a unit under a letter: for the letter of a base, the rules' `read_unit`
@@ -19,25 +21,28 @@ or_text (ok i) = i
 or_text (bad n p) = text []
 
 -- the unit of a token
-unfoldable pub unit_in : ℕ → List ℕ → ℕ → Unit
+unfoldable pub unit_in : ℕ → List ℕ → Entry → Unit
 unit_in b cs t = or_text (read_in b 0 (lex_of_kind (kind_in t) (content_in cs t)))
 
 -- the kind of a joining separator; a value with another one is refused before
 abbrev pub join_kind : ℕ → ℕ
 join_kind k = cond (leb k (sep_code dash)) k (sep_code amp)
 
-abbrev pub join_sep : ℕ → Sep
+abbrev pub join_sep : Entry → Sep
 join_sep t = sep_of (join_kind (kind_in t))
 
 -- two tokens each: a separator and the unit behind it
-abbrev pub joined : ℕ → List ℕ → List ℕ → List (Join Unit)
+abbrev pub joined : ℕ → List ℕ → List Entry → List (Join Unit)
 joined b cs [] = []
 joined b cs (u ∷ []) = []
 joined b cs (u ∷ t ∷ ts) = join (join_sep u) (place_in u) (place_in t) (unit_in b cs t) ∷ joined b cs ts
 
--- the first unit of a value counts as one behind an `&` at place 0: the number of that kind alone is this token
-unfoldable pub joins_in : ℕ → List ℕ → List ℕ → List (Join Unit)
-joins_in b cs ts = joined b cs (sep_code amp ∷ ts)
+-- the first unit of a value counts as one behind an `&` at place 0
+abbrev pub first_amp : Entry
+first_amp = record { kind = Amp; place = 0; start = 0; len = 0 }
+
+unfoldable pub joins_in : ℕ → List ℕ → List Entry → List (Join Unit)
+joins_in b cs ts = joined b cs (first_amp ∷ ts)
 
 -- ---- by their index; past the end stands an `&`
 
@@ -104,19 +109,23 @@ next_at js n = n + length (inner_at js n)
 
 -- ---- the same read from the table alone
 
+-- what is read of a table past its end
+abbrev pub no_token : Entry
+no_token = record { kind = AmpAmpDash; place = 0; start = 0; len = 0 }
+
 -- how many units a value's tokens have
-abbrev pub count : List ℕ → ℕ
+abbrev pub count : List Entry → ℕ
 count ts = length ts / 2 + length ts % 2
 
 -- kind and place of the separator before the n-th unit, and the place of the n-th unit
-unfoldable pub sep_kind : List ℕ → ℕ → ℕ
-sep_kind ts n = cond (eqb n 0) (sep_code amp) (cond (ltb n (count ts)) (join_kind (kind_in (get_or ts (n + n - 1) 0))) (sep_code amp))
+unfoldable pub sep_kind : List Entry → ℕ → ℕ
+sep_kind ts n = cond (eqb n 0) (sep_code amp) (cond (ltb n (count ts)) (join_kind (kind_in (get_or ts (n + n - 1) no_token))) (sep_code amp))
 
-unfoldable pub sep_place : List ℕ → ℕ → ℕ
-sep_place ts n = cond (eqb n 0) 0 (cond (ltb n (count ts)) (place_in (get_or ts (n + n - 1) 0)) 0)
+unfoldable pub sep_place : List Entry → ℕ → ℕ
+sep_place ts n = cond (eqb n 0) 0 (cond (ltb n (count ts)) (place_in (get_or ts (n + n - 1) no_token)) 0)
 
-unfoldable pub unit_place : List ℕ → ℕ → ℕ
-unit_place ts n = cond (ltb n (count ts)) (place_in (get_or ts (n + n) 0)) 0
+unfoldable pub unit_place : List Entry → ℕ → ℕ
+unit_place ts n = cond (ltb n (count ts)) (place_in (get_or ts (n + n) no_token)) 0
 
 -- a separator that begins an element: `&` or `&-`
 abbrev pub begins_kind : ℕ → Bool

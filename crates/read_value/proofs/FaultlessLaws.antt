@@ -16,22 +16,23 @@ use Rattle.rules.specs.Units.{Base, letter, Unit, read_unit}
 use Rattle.rules.proofs.ResultLaws.{ok≢bad, map_ok, bind_ok}
 use Rattle.token_table.specs.Table.{kind_in, place_in, content_in, lex_of_kind, sep_of, tokens_in, word_kind}
 use Rattle.token_table.proofs.AltLaws.{unit_kind, joiner_yes, joiner_none, wanted}
-use Rattle.read_joins.specs.Joins.{unit_in, joins_in, count}
+use Rattle.read_joins.specs.Joins.{unit_in, joins_in, no_token, count}
+use Rattle.token_table.specs.declared.Token.{Token as Entry}
 use Rattle.read_value.proofs.PassLaws.{unit_read, joins_are, joins_all}
 
 -- ---- each unit is read
 
-abbrev pub UnitRead : Base → List ℕ → ℕ → Type 0
+abbrev pub UnitRead : Base → List ℕ → Entry → Type 0
 UnitRead b cs t = read_unit b (place_in t) (lex_of_kind (kind_in t) (content_in cs t)) ≡ ok (unit_in (letter b) cs t)
 
 -- every second token, from this one on or from the next one
-abbrev UnitsRead : Base → List ℕ → Bool → List ℕ → Type 0
+abbrev UnitsRead : Base → List ℕ → Bool → List Entry → Type 0
 UnitsRead b cs true [] = Always
 UnitsRead b cs false [] = Always
 UnitsRead b cs true (t ∷ ts) = UnitRead b cs t × UnitsRead b cs false ts
 UnitsRead b cs false (t ∷ ts) = UnitsRead b cs true ts
 
-units_read_lem : (b : Base) (cs ts : List ℕ) (u : Bool) (s : Sep) (q e : ℕ) (js : List (Join Lex)) (is : List (Join Unit))
+units_read_lem : (b : Base) (cs : List ℕ) (ts : List Entry) (u : Bool) (s : Sep) (q e : ℕ) (js : List (Join Lex)) (is : List (Join Unit))
     → alternate (wanted u s q) (tokens_in cs ts) e ≡ ok js
     → read_units b js ≡ ok is → UnitsRead b cs u ts
 units_read_lem b cs [] true s q e js is h g = tt
@@ -50,7 +51,7 @@ units_read_lem b cs (t ∷ ts) false s q e js is h g =
     (λ y. units_read_lem b cs ts true (sep_of k) (place_in t) e js is (rw (joiner_yes k w y, alternate) at h) g)
     (λ y. ok≢bad (rw (joiner_none k w y, alternate) at h))
 
-unit_at_lem : (b : Base) (cs ts : List ℕ) (n : ℕ) → UnitsRead b cs true ts → n < count ts → UnitRead b cs (get_or ts (n + n) 0)
+unit_at_lem : (b : Base) (cs : List ℕ) (ts : List Entry) (n : ℕ) → UnitsRead b cs true ts → n < count ts → UnitRead b cs (get_or ts (n + n) no_token)
 unit_at_lem b cs [] n u h = absurd (omega arith)
 unit_at_lem b cs (t ∷ ts) zero u h = u.0
 unit_at_lem b cs (t ∷ []) (suc n) u h = absurd (omega arith)
@@ -61,16 +62,16 @@ unit_at_lem b cs (t ∷ s ∷ ts) (suc n) u h =
 -- ---- the value
 
 -- what a reader knows of a value without fault
-pub record Sound (b : Base) (ts cs : List ℕ) (es : List Element) : Type 0 where
+pub record Sound (b : Base) (ts : List Entry) (cs : List ℕ) (es : List Element) : Type 0 where
   pub some : 0 < length ts
   pub groups : elements (groups_of (collect (joins_in (letter b) cs ts))) ≡ ok es
-  pub units : (n : ℕ) → n < count ts → UnitRead b cs (get_or ts (n + n) 0)
+  pub units : (n : ℕ) → n < count ts → UnitRead b cs (get_or ts (n + n) no_token)
 
-some_token : (cs ts : List ℕ) (e : ℕ) (js : List (Join Lex)) → alternate (unit_after amp 0) (tokens_in cs ts) e ≡ ok js → 0 < length ts
+some_token : (cs : List ℕ) (ts : List Entry) (e : ℕ) (js : List (Join Lex)) → alternate (unit_after amp 0) (tokens_in cs ts) e ≡ ok js → 0 < length ts
 some_token cs [] e js h = ok≢bad h
 some_token cs (t ∷ ts) e js h = omega arith
 
-pub sound : (b : Base) (ts cs : List ℕ) (e : ℕ) (es : List Element) → read_value b (tokens_in cs ts) e ≡ ok es → Sound b ts cs es
+pub sound : (b : Base) (ts : List Entry) (cs : List ℕ) (e : ℕ) (es : List Element) → read_value b (tokens_in cs ts) e ≡ ok es → Sound b ts cs es
 sound b ts cs e es h =
     let r = value_read_lem b (tokens_in cs ts) e es h in
     let z : r.is ≡ joins_in (letter b) cs ts = joins_are b cs ts true amp 0 e r.js r.is r.turns r.units ∙ joins_all (letter b) cs ts in

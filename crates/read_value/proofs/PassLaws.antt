@@ -1,57 +1,60 @@
 -- The passes over a value are the rules' passes: where units and separators alternate, the joined units of the table are the ones that the rules read.
-use Prim.Native.Nat.{ℕ, ◌+◌, ◌-◌, ◌≤◌, ◌<◌}
-use mathlib.Core.Path.{◌≡◌, refl, sym, ◌∙◌}
+use Prim.Native.Nat.{ℕ, ◌+◌, ◌≤◌, ◌<◌}
+use mathlib.Core.Path.{◌≡◌, refl, sym, ap, ◌∙◌}
 use mathlib.Core.Bool.{Bool, true, false}
 use mathlib.Core.List.{List, [], ◌∷◌, map}
 use native.Mathlib.Omega.{arith}
-use borrow.Author.Tests.{le-ltb, ne_eqb, leb-true}
+use borrow.Author.Tests.{le-ltb, lt-leb, le-leb, ne_eqb, leb-true}
 use lib.Dec.{leb, eqb}
-use lib.ListN.{length, get_or, take, drop, drop_of_length-le}
-use Rattle.laws.specs.Cases.{by_bool}
-use Rattle.laws.specs.Lists.{next}
+use lib.ListN.{length, get_or, drop, drop_of_length-le}
+use Rattle.laws.specs.Cases.{Always, by_bool}
 use Rattle.rules.specs.Commands.{Element, sum, terms, value_count, first}
 use Rattle.rules.specs.Groups.{Join, join, alternate, unit_after, joiner, read_units, elements, groups_of, collect}
 use Rattle.rules.specs.Refusals.{Res, ok, bad, ◌>>=◌, map_r, guard, most_arguments, too_many_orders}
 use Rattle.rules.specs.Tokens.{Lex, Sep, amp}
 use Rattle.rules.specs.Units.{Base, letter, Unit, read_unit}
 use Rattle.rules.proofs.ResultLaws.{by_res, ok_inj, ok≢bad, map_ok, bind_ok}
-use Rattle.units.specs.Words.{unit_under, read_as}
+use Rattle.units.specs.Words.{Answer, refused_with, unit_under, read_as}
 use Rattle.units.specs.declared.Word.{Word}
-use Rattle.units.specs.declared.Word.TheVariants.{Numeral, Keyed, Identifier, Symbolic, Unreadable, TooBig}
+use Rattle.units.specs.declared.Word.TheVariants.{Numeral, Keyed, Identifier, Symbolic}
+use Rattle.units.specs.declared.Fault.{Fault}
+use Rattle.units.specs.declared.Fault.TheVariants.{Unreadable, TooBig}
+use Rattle.std.proofs.Common.{Result, Ok, Err}
+use Rattle.rules.specs.declared.Refusal.{Refusal}
+use Rattle.rules.specs.Reasons.{refusal}
+use Rattle.token_table.specs.declared.Token.{Token as Entry}
+use Rattle.token_table.specs.declared.Kind.{Kind}
+use Rattle.token_table.proofs.KindLaws.{next_token, other_kind}
 use Rattle.units.proofs.WordLaws.{unit_is}
-use Rattle.token_table.specs.Table.{kind_in, place_in, content_in, lex_of_kind, sep_of, tokens_in, verdict, Alternates, start_in, end_in}
-use Rattle.token_table.specs.declared.Verdict.{Verdict}
-use Rattle.token_table.specs.declared.Verdict.TheVariants.{Fine, Refused}
+use Rattle.token_table.specs.Table.{number, kind_in, place_in, content_in, lex_of_kind, sep_of, tokens_in, Verdict, verdict, Alternates}
 use Rattle.token_table.proofs.FindLaws.{first_place, place_in_lem}
 use Rattle.token_table.proofs.AltLaws.{unit_kind, joiner_yes, joiner_none, wanted, verdict_ok, verdict_bad}
-use Rattle.token_table.proofs.ContentLaws.{cut_is}
-use Rattle.read_joins.specs.Joins.{or_text, unit_in, join_sep, joined, joins_in}
+use Rattle.read_joins.specs.Joins.{or_text, unit_in, join_sep, joined, joins_in, no_token}
 use Rattle.read_elements.specs.Walk.{value_answer}
 use Rattle.read_elements.specs.declared.Value.{Value}
-use Rattle.read_elements.specs.declared.Value.TheVariants.{Refused as RefusedValue}
 use Rattle.read_value.specs.Passes.{word_verdict, unit_verdict, or_next, units_verdict, limited, grouped_answer, Reads}
 
 -- ---- one unit
 
-word_verdict_lem : (p : ℕ) (w : List ℕ) (u : Word) → verdict (read_as p w u) ≡ word_verdict p u
+word_verdict_lem : (p : ℕ) (w : List ℕ) (u : Answer) → verdict (read_as p w u) ≡ word_verdict p u
 unfolding read_as
-word_verdict_lem p w (Numeral l f v) = refl
-word_verdict_lem p w (Keyed k) = refl
-word_verdict_lem p w Identifier = refl
-word_verdict_lem p w Symbolic = refl
-word_verdict_lem p w Unreadable = refl
-word_verdict_lem p w TooBig = refl
+word_verdict_lem p w (Ok (Numeral l f v)) = refl
+word_verdict_lem p w (Ok (Keyed k)) = refl
+word_verdict_lem p w (Ok Identifier) = refl
+word_verdict_lem p w (Ok Symbolic) = refl
+word_verdict_lem p w (Err Unreadable) = refl
+word_verdict_lem p w (Err TooBig) = refl
 
-same_unit_lem : (p : ℕ) (w : List ℕ) (u : Word) (i : Unit) → read_as p w u ≡ ok i → i ≡ or_text (read_as 0 w u)
+same_unit_lem : (p : ℕ) (w : List ℕ) (u : Answer) (i : Unit) → read_as p w u ≡ ok i → i ≡ or_text (read_as 0 w u)
 unfolding read_as
-same_unit_lem p w (Numeral l f v) i h = sym (ok_inj h)
-same_unit_lem p w (Keyed k) i h = sym (ok_inj h)
-same_unit_lem p w Identifier i h = sym (ok_inj h)
-same_unit_lem p w Symbolic i h = sym (ok_inj h)
-same_unit_lem p w Unreadable i h = ok≢bad h
-same_unit_lem p w TooBig i h = ok≢bad h
+same_unit_lem p w (Ok (Numeral l f v)) i h = sym (ok_inj h)
+same_unit_lem p w (Ok (Keyed k)) i h = sym (ok_inj h)
+same_unit_lem p w (Ok Identifier) i h = sym (ok_inj h)
+same_unit_lem p w (Ok Symbolic) i h = sym (ok_inj h)
+same_unit_lem p w (Err Unreadable) i h = ok≢bad h
+same_unit_lem p w (Err TooBig) i h = ok≢bad h
 
-module _ (b : Base) (cs : List ℕ) (t : ℕ) where
+module _ (b : Base) (cs : List ℕ) (t : Entry) where
   unit_verdict_lem : leb 10 (kind_in t) ≡ true → verdict (read_unit b (place_in t) (lex_of_kind (kind_in t) (content_in cs t))) ≡ unit_verdict (letter b) cs t
   unfolding lex_of_kind unit_verdict
   unit_verdict_lem h =
@@ -68,7 +71,7 @@ module _ (b : Base) (cs : List ℕ) (t : ℕ) where
       (λ y. rw (n, y) (same_unit_lem (place_in t) (content_in cs t) (unit_under (letter b) (content_in cs t)) i (unit_is b (place_in t) (content_in cs t) ∙ rw (n, y) at e)))
       (λ y. rw (n, y) (sym (ok_inj (rw (n, y) at e))))
 
-  sep_verdict : leb (kind_in t) 5 ≡ true → unit_verdict (letter b) cs t ≡ Fine
+  sep_verdict : leb (kind_in t) 5 ≡ true → unit_verdict (letter b) cs t ≡ Ok tt
   unfolding unit_verdict
   sep_verdict h = let l = leb-true (kind_in t) 5 h in rw (ne_eqb (kind_in t) 10 (λ e. absurd (omega arith)))
 
@@ -82,7 +85,7 @@ verdict_bind (ok a) (ok x) f = refl
 verdict_bind (ok a) (bad n p) f = refl
 verdict_bind (bad n p) R f = refl
 
-units_verdict_lem : (b : Base) (cs ts : List ℕ) (u : Bool) (s : Sep) (q e : ℕ) (js : List (Join Lex)) → alternate (wanted u s q) (tokens_in cs ts) e ≡ ok js
+units_verdict_lem : (b : Base) (cs : List ℕ) (ts : List Entry) (u : Bool) (s : Sep) (q e : ℕ) (js : List (Join Lex)) → alternate (wanted u s q) (tokens_in cs ts) e ≡ ok js
     → verdict (read_units b js) ≡ units_verdict (letter b) cs ts
 unfolding units_verdict
 units_verdict_lem b cs [] true s q e js h = ok≢bad h
@@ -100,16 +103,16 @@ units_verdict_lem b cs (t ∷ ts) false s q e js h =
     (λ y. rw (sep_verdict b cs t y) (units_verdict_lem b cs ts true (sep_of k) (place_in t) e js (rw (joiner_yes k w y, alternate) at h)))
     (λ y. ok≢bad (rw (joiner_none k w y, alternate) at h))
 
-abbrev joined_by : ℕ → List ℕ → Bool → Sep → ℕ → List ℕ → List (Join Unit)
+abbrev joined_by : ℕ → List ℕ → Bool → Sep → ℕ → List Entry → List (Join Unit)
 joined_by l cs true s q [] = []
 joined_by l cs true s q (t ∷ ts) = join s q (place_in t) (unit_in l cs t) ∷ joined l cs ts
 joined_by l cs false s q ts = joined l cs ts
 
-joined_step : (l : ℕ) (cs : List ℕ) (t : ℕ) (ts : List ℕ) → joined l cs (t ∷ ts) ≡ joined_by l cs true (join_sep t) (place_in t) ts
+joined_step : (l : ℕ) (cs : List ℕ) (t : Entry) (ts : List Entry) → joined l cs (t ∷ ts) ≡ joined_by l cs true (join_sep t) (place_in t) ts
 joined_step l cs t [] = refl
 joined_step l cs t (x ∷ ts) = refl
 
-pub joins_are : (b : Base) (cs ts : List ℕ) (u : Bool) (s : Sep) (q e : ℕ) (js : List (Join Lex)) (is : List (Join Unit))
+pub joins_are : (b : Base) (cs : List ℕ) (ts : List Entry) (u : Bool) (s : Sep) (q e : ℕ) (js : List (Join Lex)) (is : List (Join Unit))
     → alternate (wanted u s q) (tokens_in cs ts) e ≡ ok js
     → read_units b js ≡ ok is → is ≡ joined_by (letter b) cs u s q ts
 joins_are b cs [] true s q e js is h g = ok≢bad h
@@ -130,29 +133,35 @@ joins_are b cs (t ∷ ts) false s q e js is h g =
 
 -- ---- the loop over the units
 
-module _ (b : ℕ) (cs ts : List ℕ) (i : ℕ) where
-  pub units_more : {r v : Verdict} → r ≡ units_verdict b cs (drop i ts) → i < length ts → v ≡ unit_verdict b cs (get_or ts i 0) → v ≡ Fine
+module _ (b : ℕ) (cs : List ℕ) (ts : List Entry) (i : ℕ) where
+  pub units_more : {u : Always} {r : Verdict} → r ≡ units_verdict b cs (drop i ts) → i < length ts → Ok u ≡ unit_verdict b cs (get_or ts i no_token)
       → r ≡ units_verdict b cs (drop (i + 1) ts)
   unfolding units_verdict
-  units_more q h e y = q ∙ rw (next ts i h, ← e, y)
+  units_more q h e = q ∙ rw (next_token ts i h, ← e)
 
-  pub units_stop : (n p : ℕ) {r v : Verdict} → r ≡ units_verdict b cs (drop i ts) → i < length ts → v ≡ unit_verdict b cs (get_or ts i 0) → v ≡ Refused n p → Refused n p ≡ r
+  pub units_stop : {x : Refusal} {r : Verdict} → r ≡ units_verdict b cs (drop i ts) → i < length ts → Err x ≡ unit_verdict b cs (get_or ts i no_token) → Err x ≡ r
   unfolding units_verdict
-  units_stop n p q h e y = sym (q ∙ rw (next ts i h, ← e, y))
+  units_stop q h e = sym (q ∙ rw (next_token ts i h, ← e))
 
-  pub units_end : {r : Verdict} → r ≡ units_verdict b cs (drop i ts) → length ts ≤ i → Fine ≡ r
+  pub units_end : {r : Verdict} → r ≡ units_verdict b cs (drop i ts) → length ts ≤ i → Ok tt ≡ r
   unfolding units_verdict
   units_end q h = sym (q ∙ rw (drop_of_length-le ts h))
 
-module _ (b : ℕ) (cs : List ℕ) (t : ℕ) where
-  pub word_is : {k p from to : ℕ} {u : Word} {r : Verdict} → k ≡ kind_in t → k ≡ 10 → from ≡ start_in t (length cs) → to ≡ end_in t (length cs)
-      → u ≡ unit_under b (take (to - from) (drop from cs)) → p ≡ place_in t → r ≡ word_verdict p u → r ≡ unit_verdict b cs t
+module _ (b : ℕ) (cs : List ℕ) (t : Entry) where
+  word_at : {w : List ℕ} {u : Answer} → Entry.kind t ≡ Kind.Word → w ≡ content_in cs t → u ≡ unit_under b w → unit_verdict b cs t ≡ word_verdict (place_in t) u
   unfolding unit_verdict
-  word_is e g f o w v q = rw (q, w, cut_is cs t f o, v, ← e, g)
+  word_at h w u = let k : kind_in t ≡ 10 = ap number h in rw (k, u, w)
 
-  pub word_none : {k : ℕ} → k ≡ kind_in t → (k ≡ 10 → ⊥) → Fine ≡ unit_verdict b cs t
+  pub word_fine : {w : List ℕ} {u : Word} → Entry.kind t ≡ Kind.Word → w ≡ content_in cs t → Ok u ≡ unit_under b w → Ok tt ≡ unit_verdict b cs t
+  word_fine h w u = sym (word_at h w u)
+
+  pub word_bad : {w : List ℕ} {f : Fault} {p : ℕ} {x : Refusal} → Entry.kind t ≡ Kind.Word → w ≡ content_in cs t → Err f ≡ unit_under b w → p ≡ place_in t
+      → x ≡ refused_with f p → Err x ≡ unit_verdict b cs t
+  word_bad h w u p x = rw (x, p) (sym (word_at h w u))
+
+  pub word_none : (Entry.kind t ≡ Kind.Word → ⊥) → Ok tt ≡ unit_verdict b cs t
   unfolding unit_verdict
-  word_none e g = rw (ne_eqb (kind_in t) 10 (λ z. g (e ∙ z)))
+  word_none h = rw (ne_eqb (kind_in t) 10 (other_kind h))
 
 -- ---- the whole value
 
@@ -164,23 +173,44 @@ limit_is : (p : ℕ) (v : Res (List Element)) → limited p (value_answer v) ≡
 limit_is p (ok v) = by_bool (leb (sum (map terms v)) most_arguments) (λ y. rw (count_test v, y)) (λ y. rw (count_test v, y))
 limit_is p (bad n q) = refl
 
-pub joins_all : (l : ℕ) (cs ts : List ℕ) → joined_by l cs true amp 0 ts ≡ joins_in l cs ts
-unfolding joins_in kind_in place_in
+pub joins_all : (l : ℕ) (cs : List ℕ) (ts : List Entry) → joined_by l cs true amp 0 ts ≡ joins_in l cs ts
+unfolding joins_in
 joins_all l cs [] = refl
 joins_all l cs (t ∷ ts) = refl
 
-pub some_token : (ts : List ℕ) (e : ℕ) {v : Verdict} → Alternates ts e v → v ≡ Fine → 0 < length ts
-some_token [] e a h = let z = a [] in let o : ◌≡◌ {A = ℕ} 0 1 = cc in absurd (omega arith)
-some_token (t ∷ ts) e a h = omega arith
+-- from 12 on, pass by pass
+module _ (b : ℕ) (cs : List ℕ) (ts : List Entry) where
+  pub grouped_bad : {x : Refusal} → Err x ≡ units_verdict b cs ts → Err x ≡ grouped_answer b cs ts
+  unfolding grouped_answer
+  grouped_bad e = rw (← e)
 
-pub read_refused : (ts cs : List ℕ) (l e n p : ℕ) {v : Verdict} → Alternates ts e v → v ≡ Refused n p → Reads ts cs l e (RefusedValue n p)
-read_refused ts cs l e n p a h b m = rw (verdict_bad (alternate (unit_after amp 0) (tokens_in cs ts) e) n p (sym (a cs) ∙ h))
+  module _ {u : Always} (e : Ok u ≡ units_verdict b cs ts) where
+    pub grouped_fault : {x : Refusal} → Err x ≡ value_answer (elements (groups_of (collect (joins_in b cs ts)))) → Err x ≡ grouped_answer b cs ts
+    unfolding grouped_answer
+    grouped_fault v = rw (← e, ← v)
 
-pub read_fine : (ts cs : List ℕ) (l e : ℕ) {v : Verdict} {r : Value} → Alternates ts e v → v ≡ Fine → r ≡ grouped_answer l cs ts → Reads ts cs l e r
+    pub grouped_many : {v : Value} {p : ℕ} {x : Refusal} → Ok v ≡ value_answer (elements (groups_of (collect (joins_in b cs ts)))) → most_arguments < v.args
+        → p ≡ place_in (get_or ts 0 no_token) → x ≡ refusal too_many_orders p → Err x ≡ grouped_answer b cs ts
+    unfolding grouped_answer
+    grouped_many {v} a h p x = rw (x, p, ← e, ← a, lt-leb v.args most_arguments h)
+
+    pub grouped_fine : {v : Value} → Ok v ≡ value_answer (elements (groups_of (collect (joins_in b cs ts)))) → v.args ≤ most_arguments → Ok v ≡ grouped_answer b cs ts
+    unfolding grouped_answer
+    grouped_fine {v} a h = rw (← e, ← a, le-leb v.args most_arguments h)
+
+pub some_token : (ts : List Entry) (e : ℕ) {u : Always} → Alternates ts e (Ok u) → 0 < length ts
+some_token [] e a = let z = a [] in absurd cc
+some_token (t ∷ ts) e a = omega arith
+
+pub read_refused : (ts : List Entry) (cs : List ℕ) (l e : ℕ) {x : Refusal} → Alternates ts e (Err x) → Reads ts cs l e (Err x)
+read_refused ts cs l e {x} a b m =
+    verdict_bad (alternate (unit_after amp 0) (tokens_in cs ts) e) x (sym (a cs)) (λ n p h q. rw (h, q))
+
+pub read_fine : (ts : List Entry) (cs : List ℕ) (l e : ℕ) {u : Always} {r : Result Value Refusal} → Alternates ts e (Ok u) → r ≡ grouped_answer l cs ts → Reads ts cs l e r
 unfolding grouped_answer
-read_fine ts cs l e {v} {r} a h q b m =
-    let p0 = first_place cs ts e ∙ place_in_lem ts 0 e (some_token ts e a h) in
-    verdict_ok (alternate (unit_after amp 0) (tokens_in cs ts) e) (sym (a cs) ∙ h)
+read_fine ts cs l e {u} {r} a q b m =
+    let p0 = first_place cs ts e ∙ place_in_lem ts 0 e (some_token ts e a) in
+    verdict_ok (alternate (unit_after amp 0) (tokens_in cs ts) e) (sym (a cs))
     (λ js y.
     let uv = units_verdict_lem b cs ts true amp 0 e js y in
     by_res (read_units b js)

@@ -2,32 +2,30 @@
 // before every refusal is excluded. Who wants no row is read for as many slots as there can be places.
 #![tactic(auto)]
 
-ghost use Rattle.std.specs.Prelude.{◌≤◌, ◌≡◌, length, take};
+ghost use Rattle.std.specs.Prelude.{◌≤◌, ◌≡◌, length};
 ghost use Rattle.rules.specs.Answers.{Reads, ReadsRow};
 ghost use Rattle.rules.specs.Refusals.{most_text};
-ghost use Rattle.rules.specs.Tokens.{scan};
-ghost use Rattle.chars.specs.Classes.{table};
 ghost use Rattle.reader.specs.Reader.{TokensOf, Records, RecordsText, ReadsFor};
 
-use chars;
-use command_fields;
-use index;
-use read_bases;
-use read_command;
-use read_command::Checked;
-use rules::{Answer, MOST_PLACES, MOST_TEXT, NO_ROOM, TOO_LONG};
-use scan;
-use scan::Filled;
-use token_table::Verdict;
+use rules::{Answer, MOST_PLACES, MOST_TEXT, Reason};
+use token_table::{Kind, Token};
 
 // Texts of at most so many bytes are read through short tables.
 const SHORT: usize = 128;
 // Texts of at most so many bytes are read through middle tables.
 const MIDDLE: usize = 512;
 
+// What stands in a table before its tokens are known.
+const NO_TOKEN: Token = Token {
+    kind: Kind::AmpAmpDash,
+    place: 0,
+    start: 0,
+    len: 0,
+};
+
 // The tokens of a text of `len` bytes into its record, if there are slots for its places: 6 to 17.
 fn put_record(
-    toks: &[u64],
+    toks: &[Token],
     contents: &[u8],
     bases: &[u8],
     len: u32,
@@ -37,107 +35,28 @@ fn put_record(
     requires { TokensOf toks.now contents.now }
     ensures { Records toks.now contents.now bases.now len slots out.old result out.new }
 {
-    match read_command::command(toks, contents, bases, len) {
-        Checked::Refused { no, place } => Answer::Refused(no, place),
-        Checked::Fine {
-            bytes,
-            orders,
-            places,
-        } => {
-            if out.len() < bytes as usize {
-                return Answer::Refused(NO_ROOM, bytes);
-            }
-            if slots < places {
-                return Answer::Refused(NO_ROOM, places as u32);
-            }
-            Answer::Done(command_fields::put_command(out, toks, contents, bases, orders) as u32)
-        }
+    let right = read_command::command(toks, contents, bases, len)?;
+    if out.len() < right.bytes as usize {
+        return Err(Reason::NoRoom.at(right.bytes));
     }
-}
-
-// The first n tokens of a table into their record.
-fn put_filled(
-    toks: &[u64],
-    n: usize,
-    contents: &[u8],
-    bases: &[u8],
-    len: u32,
-    slots: usize,
-    out: &mut [u8],
-) -> Answer
-    requires { (n ≤ length toks.now) × TokensOf (take n toks.now) contents.now }
-    ensures { Records (take n toks.now) contents.now bases.now len slots out.old result out.new }
-{
-    put_record(&toks[..n], contents, bases, len, slots, out)
-}
-
-// A text into its record, through tables that are as long as the text at least: 3 to 17.
-fn with_tables(
-    text: &[u8],
-    classes: &[u8; 128],
-    bases: &[u8],
-    toks: &mut [u64],
-    contents: &mut [u8],
-    slots: usize,
-    out: &mut [u8],
-) -> Answer
-    requires { (classes.now ≡ table) × (length text.now ≤ most_text) × (length text.now ≤ length toks.old) × (length text.now ≤ length contents.old) }
-    ensures { RecordsText text.now bases.now slots out.old result out.new }
-{
-    match scan::tokens(text, classes, toks, contents) {
-        Filled::Refused { no, place } => Answer::Refused(no, place as u32),
-        Filled::Done { tokens, bytes } => put_filled(
-            toks,
-            tokens,
-            contents,
-            bases,
-            text.len() as u32,
-            slots,
-            out,
-        ),
+    if slots < right.places {
+        return Err(Reason::NoRoom.at(right.places as u32));
     }
+    Ok(command_fields::put_command(out, toks, contents, bases, right.orders) as u32)
 }
 
-// A short text into its record.
-fn read_short(
-    text: &[u8],
-    classes: &[u8; 128],
-    bases: &[u8],
-    slots: usize,
-    out: &mut [u8],
-) -> Answer
-    requires { (classes.now ≡ table) × (length text.now ≤ 128) }
+// A text of at most N bytes into its record, through tables of N entries: 3 to 17. It stays a function of its own, so that the long tables stand on
+// the stack only for long texts.
+#[inline(never)]
+fn read_within<const N: usize>(text: &[u8], bases: &[u8], slots: usize, out: &mut [u8]) -> Answer
+    requires { (length text.now ≤ N) × (N ≤ most_text) }
     ensures { RecordsText text.now bases.now slots out.old result out.new }
 {
-    let mut toks = [0u64; 128];
-    let mut contents = [0u8; 128];
-    with_tables(text, classes, bases, &mut toks, &mut contents, slots, out)
-}
-
-// A text of middle length into its record.
-fn read_middle(
-    text: &[u8],
-    classes: &[u8; 128],
-    bases: &[u8],
-    slots: usize,
-    out: &mut [u8],
-) -> Answer
-    requires { (classes.now ≡ table) × (length text.now ≤ 512) }
-    ensures { RecordsText text.now bases.now slots out.old result out.new }
-{
-    let mut toks = [0u64; 512];
-    let mut contents = [0u8; 512];
-    with_tables(text, classes, bases, &mut toks, &mut contents, slots, out)
-}
-
-// A long text into its record.
-fn read_long(text: &[u8], classes: &[u8; 128], bases: &[u8], slots: usize, out: &mut [u8]) -> Answer
-    requires { (classes.now ≡ table) × (length text.now ≤ most_text) }
-    ensures { RecordsText text.now bases.now slots out.old result out.new }
-{
-    let mut toks = [0u64; 1024];
-    let mut contents = [0u8; 1024];
-    with_tables(text, classes, bases, &mut toks, &mut contents, slots, out)
+    let mut toks = [NO_TOKEN; N];
+    let mut contents = [0u8; N];
+    let filled = scan::tokens(text, &mut toks, &mut contents)?;
+    let read = &toks[..filled.tokens];
+    put_record(read, &contents, bases, text.len() as u32, slots, out)
 }
 
 // A text into its record, 2 first.
@@ -145,26 +64,23 @@ fn read_text(text: &[u8], bases: &[u8], slots: usize, out: &mut [u8]) -> Answer
     ensures { RecordsText text.now bases.now slots out.old result out.new }
 {
     if MOST_TEXT < text.len() {
-        return Answer::Refused(TOO_LONG, MOST_TEXT as u32);
+        return Err(Reason::TooLong.at(MOST_TEXT as u32));
     }
-    let classes = chars::CLASSES;
     if text.len() <= SHORT {
-        return read_short(text, &classes, bases, slots, out);
+        return read_within::<SHORT>(text, bases, slots, out);
     }
     if text.len() <= MIDDLE {
-        return read_middle(text, &classes, bases, slots, out);
+        return read_within::<MIDDLE>(text, bases, slots, out);
     }
-    read_long(text, &classes, bases, slots, out)
+    read_within::<MOST_TEXT>(text, bases, slots, out)
 }
 
 // A text under base letters into its record, if there are slots for its places: 1, then the text.
 fn read_for(text: &[u8], bases: &[u8], slots: usize, out: &mut [u8]) -> Answer
     ensures { ReadsFor text.now bases.now slots out.old result out.new }
 {
-    match read_bases::letters(bases) {
-        Verdict::Refused { no, place } => Answer::Refused(no, place),
-        Verdict::Fine => read_text(text, bases, slots, out),
-    }
+    read_bases::letters(bases)?;
+    read_text(text, bases, slots, out)
 }
 
 // Reads one command into a record.
@@ -178,11 +94,7 @@ pub fn read(text: &[u8], bases: &[u8], out: &mut [u8]) -> Answer
 pub fn read_row(text: &[u8], bases: &[u8], out: &mut [u8], row: &mut [u32]) -> Answer
     ensures { ReadsRow text.now bases.now out.old row.old result out.new row.new }
 {
-    match read_for(text, bases, row.len(), out) {
-        Answer::Refused(no, place) => Answer::Refused(no, place),
-        Answer::Done(bytes) => {
-            index::fill(&out[..bytes as usize], row);
-            Answer::Done(bytes)
-        }
-    }
+    let bytes = read_for(text, bases, row.len(), out)?;
+    index::fill(&out[..bytes as usize], row);
+    Ok(bytes)
 }

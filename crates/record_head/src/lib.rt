@@ -6,7 +6,7 @@ ghost use Rattle.laws.specs.Over.{over};
 ghost use Rattle.rules.specs.Records.{head_size, head_bytes, count_in};
 ghost use Rattle.record_head.specs.Heads.{Begins};
 
-use record_walk::{COUNT, HEADER, NUMBER};
+use record_walk::{HEADER, NUMBER, Tag};
 
 // The bytes of a head: the code begins behind them.
 pub const HEAD: usize = HEADER + NUMBER;
@@ -18,16 +18,9 @@ const CONTENT: u16 = NUMBER as u16;
 pub fn begins(rec: &[u8]) -> bool
     ensures { Begins rec.now result }
 {
-    if rec.len() < HEAD {
-        return false;
-    }
-    if rec[0] != COUNT {
-        return false;
-    }
-    if record_walk::field_end(rec[1], rec[2]) != HEAD {
-        return false;
-    }
-    true
+    HEAD <= rec.len()
+        && rec[0] == Tag::Count as u8
+        && record_walk::field_end(rec[1], rec[2]) == HEAD
 }
 
 // The number of orders that a head says.
@@ -43,6 +36,6 @@ pub fn put_head(out: &mut [u8], orders: u32)
     requires { head_size ≤ length out.old }
     ensures { out.new ≡ over (head_bytes orders) out.old }
 {
-    fields::put_header(out, COUNT, CONTENT);
+    fields::put_header(out, Tag::Count, CONTENT);
     record_walk::put_number(&mut out[HEADER..], orders);
 }

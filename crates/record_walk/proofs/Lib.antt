@@ -1,4 +1,5 @@
 pub mod FrontLaws
+pub mod TagLaws
 pub mod WalkLaws
 pub mod RunLaws
 pub mod ValueLaws

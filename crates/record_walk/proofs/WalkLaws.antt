@@ -1,54 +1,51 @@
 -- The walker's field is the field at the front of what stands there: the three tests are those of `front`.
-use mathlib.Core.Path.{◌≡◌, refl, sym, ◌∙◌, subst}
-use mathlib.Core.Bool.{Bool, true, false}
+use mathlib.Core.Path.{◌≡◌, refl, sym, ap, ◌∙◌, subst}
+use mathlib.Core.Bool.{Bool, true, false, false≢true}
 use mathlib.Core.List.{List, [], ◌∷◌}
 use mathlib.Core.Option.{none, some}
-use Prim.Native.Nat.{ℕ, zero, suc, ◌+◌, ◌-◌, ◌*◌, ◌≤◌, ◌<◌}
+use Rattle.std.specs.Prelude.{Option, Some, None}
+use Prim.Native.Nat.{ℕ, ◌+◌, ◌-◌, ◌*◌, ◌≤◌, ◌<◌}
 use native.Mathlib.Nat.{add-zero}
 use native.Mathlib.Omega.{arith}
 use borrow.Author.Tests.{eqb-true, lt-ltb, le-ltb, ltb-false, ltb-true}
 use lib.Dec.{eqb, ltb}
 use lib.ListN.{length, get_or, drop, length-drop}
 use lib.Seq.{drop-cons, get_or-drop, drop-drop, length-take-le}
-use Rattle.laws.specs.Cases.{pick_if}
-use Rattle.laws.specs.Keys.{None, none_above}
-use Rattle.rules.specs.Records.{field, string_tag}
-use Rattle.record_walk.specs.declared.Found.{Found}
-use Rattle.record_walk.specs.declared.Found.TheVariants.{Field, Nothing}
-use Rattle.record_walk.specs.Fields.{never, lengths, fits, length_at, field_at}
+use Rattle.laws.specs.Cases.{by_bool, pick_if}
+use Rattle.rules.specs.Records.{field}
+use Rattle.record_walk.specs.declared.Tag.{Tag}
+use Rattle.record_walk.specs.declared.Field.{Field}
+use Rattle.record_walk.specs.Tags.{number, tag_named}
+use Rattle.record_walk.proofs.TagLaws.{named, unnamed}
+use Rattle.record_walk.specs.Fields.{fits, length_at, field_from, field_at}
 use Rattle.record_walk.specs.Fronts.{tag_of, head_tag, front}
 use Rattle.record_walk.specs.Runs.{bytes_in}
 use Rattle.record_walk.proofs.FrontLaws.{head_some, head_room, front_of, front_unfit, front_short}
 
--- a tag that is none of the match's keys
-pub no_tag : (t : ℕ) → None t string_tag → (t ≡ 0 → ⊥) → 12 ≤ t
-no_tag zero r h = absurd (h refl)
-no_tag (suc t) r h = none_above (suc t) string_tag r (omega arith)
-
-pub fits_is : (t n : ℕ) → fits t n ≡ get_or lengths t never n
-unfolding fits
-fits_is t n = refl
-
 -- ---- the turns of the function
 
 module _ (rec : List ℕ) (at : ℕ) where
-  pub field_short : length rec - at < 3 → Nothing ≡ field_at rec at
+  pub field_short : length rec - at < 3 → None ≡ field_at rec at
   unfolding field_at
   field_short h = rw (lt-ltb _ _ h)
 
-  pub field_cut : (n : ℕ) → n ≡ length_at rec at → 3 ≤ length rec - at → length rec - at - 3 < n → Nothing ≡ field_at rec at
+  pub field_cut : (n : ℕ) → n ≡ length_at rec at → 3 ≤ length rec - at → length rec - at - 3 < n → None ≡ field_at rec at
   unfolding field_at
   field_cut n e h k = rw (le-ltb _ _ h, ← e, lt-ltb _ _ k)
 
-  pub field_fits : (n : ℕ) {f : Bool} → n ≡ length_at rec at → 3 ≤ length rec - at → n ≤ length rec - at - 3 → f ≡ fits (get_or rec at 0) n → f ≡ true
-      → Field (get_or rec at 0) (at + 3) (at + 3 + n) ≡ field_at rec at
-  unfolding field_at
-  field_fits n e h k q g = rw (le-ltb _ _ h, ← e, le-ltb _ _ k, ← q, g)
+  module _ (n : ℕ) (e : n ≡ length_at rec at) (h : 3 ≤ length rec - at) (k : n ≤ length rec - at - 3) {o : Option Tag} (q : o ≡ tag_named (get_or rec at 0)) where
+    pub field_unknown : o ≡ None → None ≡ field_at rec at
+    unfolding field_at
+    field_unknown z = rw (le-ltb _ _ h, ← e, le-ltb _ _ k, ← q, z) (by_bool (fits (get_or rec at 0) n) (λ y. rw y) (λ y. rw y))
 
-  pub field_unfit : (n : ℕ) {f : Bool} → n ≡ length_at rec at → 3 ≤ length rec - at → n ≤ length rec - at - 3 → f ≡ fits (get_or rec at 0) n → f ≡ false
-      → Nothing ≡ field_at rec at
-  unfolding field_at
-  field_unfit n e h k q g = rw (le-ltb _ _ h, ← e, le-ltb _ _ k, ← q, g)
+    pub field_unfit : {t : Tag} {f : Bool} → o ≡ Some t → f ≡ fits (number t) n → f ≡ false → None ≡ field_at rec at
+    unfolding field_at
+    field_unfit {t} z p g = rw (le-ltb _ _ h, ← e, le-ltb _ _ k, ← named _ (sym q ∙ z), ← p, g)
+
+    pub field_fits : {t : Tag} {f : Bool} → o ≡ Some t → f ≡ fits (number t) n → f ≡ true
+        → Some (record { tag = t; start = at + 3; next = at + 3 + n }) ≡ field_at rec at
+    unfolding field_at
+    field_fits {t} z p g = rw (le-ltb _ _ h, ← e, le-ltb _ _ k, ← q, z, ap (λ (m : ℕ). fits m n) (sym (named _ (sym q ∙ z))) ∙ sym p ∙ g)
 
 -- ---- what is found
 
@@ -62,9 +59,9 @@ pub record IsField (rec : List ℕ) (at t s k : ℕ) : Type 0 where
   pub long : length (bytes_in rec s k) ≡ k - s
   pub is : front (drop at rec) ≡ some (field t (bytes_in rec s k), drop k rec)
 
-abbrev pub Finds : List ℕ → ℕ → Found → Type 0
-Finds rec at (Field t s k) = IsField rec at t s k
-Finds rec at Nothing = front (drop at rec) ≡ none
+abbrev pub Finds : List ℕ → ℕ → Option Field → Type 0
+Finds rec at (Some f) = IsField rec at (number f.tag) f.start f.next
+Finds rec at None = front (drop at rec) ≡ none
 
 module _ (rec : List ℕ) (at : ℕ) where
   pub tag_there : tag_of (drop at rec) ≡ get_or rec at 0
@@ -93,6 +90,12 @@ module _ (rec : List ℕ) (at : ℕ) where
         is = rw (size, front_of (drop at rec) (get_or rec at 0) n tag_there length_there room f, drop-drop 3 at rec, drop-drop (3 + n) at rec, behind);
       }
 
+  -- a field that fits has a tag
+  found_whole : (o : Option Tag) → o ≡ tag_named (get_or rec at 0) → at + 3 + length_at rec at ≤ length rec → fits (get_or rec at 0) (length_at rec at) ≡ true
+      → Finds rec at (field_from o (at + 3) (at + 3 + length_at rec at))
+  found_whole None q h f = absurd (false≢true (sym (unnamed (get_or rec at 0) (length_at rec at) (sym q)) ∙ f))
+  found_whole (Some t) q h f = subst (λ (n : ℕ). IsField rec at n (at + 3) (at + 3 + length_at rec at)) (sym (named (get_or rec at 0) (sym q))) (stands_whole h f)
+
   finds_there : Finds rec at (field_at rec at)
   unfolding field_at
   finds_there =
@@ -102,18 +105,18 @@ module _ (rec : List ℕ) (at : ℕ) where
       (λ y. cut_off (omega (arith, ltb-false (length rec - at) 3 y1, ltb-true (length rec - at - 3) n y)))
       (λ y2.
       let room : at + 3 + n ≤ length rec = omega (arith, ltb-false (length rec - at) 3 y1, ltb-false (length rec - at - 3) n y2) in
-      pick_if (Finds rec at) (fits (get_or rec at 0) n) (λ y. stands_whole room y)
+      pick_if (Finds rec at) (fits (get_or rec at 0) n) (λ y. found_whole (tag_named (get_or rec at 0)) refl room y)
       (λ y. front_unfit (drop at rec) (get_or rec at 0) n tag_there length_there (omega (arith, length-drop at rec)) y)))
 
-  pub finds : (r : Found) → r ≡ field_at rec at → Finds rec at r
+  pub finds : (r : Option Field) → r ≡ field_at rec at → Finds rec at r
   finds r e = subst (Finds rec at) (sym e) finds_there
 
   -- by the walker's answer
-  pub field_there : {r : Found} {t s k : ℕ} → r ≡ Field t s k → r ≡ field_at rec at → IsField rec at t s k
-  field_there {r} {t} {s} {k} e q = finds (Field t s k) (sym e ∙ q)
+  pub field_there : {r : Option Field} {f : Field} → r ≡ Some f → r ≡ field_at rec at → IsField rec at (number f.tag) f.start f.next
+  field_there {r} {f} e q = finds (Some f) (sym e ∙ q)
 
-  pub nothing_there : {r : Found} → r ≡ Nothing → r ≡ field_at rec at → front (drop at rec) ≡ none
-  nothing_there e q = finds Nothing (sym e ∙ q)
+  pub nothing_there : {r : Option Field} → r ≡ None → r ≡ field_at rec at → front (drop at rec) ≡ none
+  nothing_there e q = finds None (sym e ∙ q)
 
   -- where a tag stands, the record goes on
   pub tag_inside : 1 ≤ head_tag (drop at rec) → at < length rec
@@ -126,9 +129,11 @@ pub record Lettered (rec : List ℕ) (at t s k : ℕ) : Type 0 where
   pub here : s < length rec
   pub content : bytes_in rec s k ≡ get_or rec s 0 ∷ []
 
-pub lettered : (rec : List ℕ) (at tag : ℕ) → ((n : ℕ) → fits tag n ≡ eqb n 1) → {r : Found} {t s k : ℕ} → r ≡ Field t s k → r ≡ field_at rec at → head_tag (drop at rec) ≡ tag
-    → Lettered rec at t s k
-lettered rec at tag letter {r} {t} {s} {k} e q h =
+pub lettered : (rec : List ℕ) (at tag : ℕ) → ((n : ℕ) → fits tag n ≡ eqb n 1) → {r : Option Field} {g : Field} → r ≡ Some g → r ≡ field_at rec at → head_tag (drop at rec) ≡ tag
+    → Lettered rec at (number g.tag) g.start g.next
+lettered rec at tag letter {r} {g} e q h =
+    let s : ℕ = g.start in
+    let k : ℕ = g.next in
     let f = field_there rec at e q in
     let fit : fits tag (k - s) ≡ true = rw (f.tag ∙ h) at f.fit in
     let one = eqb-true (k - s) 1 (sym (letter (k - s)) ∙ fit) in

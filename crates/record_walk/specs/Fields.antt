@@ -1,9 +1,10 @@
 -- Document 01, "Tagged fields: one-byte tag, two-byte length, content": the field that stands at a position of a record.
-use Rattle.std.specs.Prelude.{Bool, false, ◌&&◌, List, [], ◌∷◌, ℕ, ◌+◌, ◌-◌, ◌*◌, leb, ltb, eqb, length, get_or}
+use Rattle.std.specs.Prelude.{Bool, false, ◌&&◌, List, [], ◌∷◌, ℕ, ◌+◌, ◌-◌, ◌*◌, leb, ltb, eqb, length, get_or, Option, Some, None}
 use Rattle.laws.specs.Cases.{pick}
 use Rattle.rules.specs.Refusals.{most_word, most_string}
-use Rattle.record_walk.specs.declared.Found.{Found}
-use Rattle.record_walk.specs.declared.Found.TheVariants.{Field, Nothing}
+use Rattle.record_walk.specs.declared.Tag.{Tag}
+use Rattle.record_walk.specs.declared.Field.{Field}
+use Rattle.record_walk.specs.Tags.{tag_named}
 
 abbrev pub never : ℕ → Bool
 never n = false
@@ -30,8 +31,14 @@ fits t n = get_or lengths t never n
 abbrev pub length_at : List ℕ → ℕ → ℕ
 length_at rec at = get_or rec (at + 1) 0 * 256 + get_or rec (at + 2) 0
 
-unfoldable pub field_at : List ℕ → ℕ → Found
+-- a field of that tag, if there is one, with its content from s to k
+abbrev pub field_from : Option Tag → ℕ → ℕ → Option Field
+field_from None s k = None
+field_from (Some t) s k = Some (record { tag = t; start = s; next = k })
+
+unfoldable pub field_at : List ℕ → ℕ → Option Field
 field_at rec at =
     let n = length_at rec at in
-    pick (ltb (length rec - at) 3) Nothing
-    (pick (ltb (length rec - at - 3) n) Nothing (pick (fits (get_or rec at 0) n) (Field (get_or rec at 0) (at + 3) (at + 3 + n)) Nothing))
+    pick (ltb (length rec - at) 3) None
+    (pick (ltb (length rec - at - 3) n) None
+    (pick (fits (get_or rec at 0) n) (field_from (tag_named (get_or rec at 0)) (at + 3) (at + 3 + n)) None))

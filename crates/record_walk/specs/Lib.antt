@@ -1,3 +1,4 @@
+pub mod Tags
 pub mod Fields
 pub mod Fronts
 pub mod Runs

@@ -6,47 +6,40 @@ ghost use Rattle.rules.specs.Characters.{between};
 ghost use Rattle.laws.specs.Over.{over};
 ghost use Rattle.rules.specs.Records.{num4, four_bytes, is_unit, is_element};
 ghost use Rattle.record_walk.specs.Fields.{word_length, fits, field_at};
+ghost use Rattle.record_walk.specs.Tags.{number, tag_named};
 ghost use Rattle.record_walk.specs.Fronts.{tag_of, head_tag};
 ghost use Rattle.record_walk.specs.Runs.{Whole, field_size, RunsTo, ElementTo};
 
-// The tags: of a code piece,
-pub const CODE: u8 = 1;
-
-// of a block,
-pub const BLOCK: u8 = 2;
-
-// of a place,
-pub const PLACE: u8 = 3;
-
-// of a name piece,
-pub const NAME: u8 = 4;
-
-// of a single element,
-pub const SINGLE: u8 = 5;
-
-// of a range element,
-pub const RANGE: u8 = 6;
-
-// of a D, H, O or B numeral, the first of the units,
-pub const NUMERAL: u8 = 7;
-
-// of a keyed numeral,
-pub const KEYED: u8 = 8;
-
-// of an identifier,
-pub const IDENTIFIER: u8 = 9;
-
-// of a symbolic name,
-pub const SYMBOLIC: u8 = 10;
-
-// of a string, the last of the units,
-pub const STRING: u8 = 11;
-
-// of the number of orders, with which a record begins,
-pub const COUNT: u8 = 12;
-
-// and of an order's length, which stands before each order of a list.
-pub const ORDER_LENGTH: u8 = 14;
+// The tags of fields. Those from a numeral to a string are the units.
+#[derive(Clone, Copy, Debug, PartialEq, Eq)]
+pub enum Tag {
+    // A code piece.
+    Code = 1,
+    // A block.
+    Block = 2,
+    // A place.
+    Place = 3,
+    // A name piece.
+    Name = 4,
+    // A single element.
+    Single = 5,
+    // A range element.
+    Range = 6,
+    // A D, H, O or B numeral, the first of the units.
+    Numeral = 7,
+    // A keyed numeral.
+    Keyed = 8,
+    // An identifier.
+    Identifier = 9,
+    // A symbolic name.
+    Symbolic = 10,
+    // A string, the last of the units.
+    String = 11,
+    // The number of orders, with which a record begins.
+    Count = 12,
+    // An order's length, which stands before each order of a list.
+    OrderLength = 14,
+}
 
 // The bytes before a field's content: one of the tag, two of the length.
 pub const HEADER: usize = 3;
@@ -99,11 +92,12 @@ const THIRD: u32 = 65536;
 // What the fourth byte from the end of a number counts.
 const FOURTH: u32 = 16777216;
 
-// What stands at a position: a field, whose content is from `start` to `next`, where the next field begins; or no field.
-#[derive(Clone, Copy)]
-pub enum Found {
-    Field { tag: u8, start: usize, next: usize },
-    Nothing,
+// A field that stands at a position: its content is from `start` to `next`, where the next field begins.
+#[derive(Clone, Copy, Debug, PartialEq, Eq)]
+pub struct Field {
+    pub tag: Tag,
+    pub start: usize,
+    pub next: usize,
 }
 
 // The number of four bytes, the high one first.
@@ -150,35 +144,29 @@ pub fn field_end(a: u8, b: u8) -> usize
 pub fn is_unit(tag: u8) -> bool
     ensures { result ≡ is_unit tag }
 {
-    NUMERAL <= tag && tag <= STRING
+    Tag::Numeral as u8 <= tag && tag <= Tag::String as u8
 }
 
 // Whether the tag is an element's.
 pub fn is_element(tag: u8) -> bool
     ensures { result ≡ is_element tag }
 {
-    tag == SINGLE || tag == RANGE
+    tag == Tag::Single as u8 || tag == Tag::Range as u8
 }
 
-// The tag of the field that stands there, 0 at the record's end.
+// The tag of the field that stands there, 0 at the record's end. A number and no Option: 0 is below every tag, so that callers ask for a tag, or for one from another on, by one comparison.
 pub fn tag_at(rec: &[u8], at: usize) -> u8
     ensures { result ≡ tag_of (drop at rec.now) }
 {
-    if at < rec.len() {
-        return rec[at];
-    }
-    0
+    if at < rec.len() { rec[at] } else { 0 }
 }
 
-// The tag of the field that stands there, 0 where there is no room for what stands before a content.
+// The tag of the field that stands there, 0 where there is no room for what stands before a content. As in `tag_at`, 0 is no tag, and callers ask by one comparison.
 pub fn head_tag(rec: &[u8], at: usize) -> u8
     requires { at ≤ length rec.now }
     ensures { result ≡ head_tag (drop at rec.now) }
 {
-    if rec.len() < at + HEADER {
-        return 0;
-    }
-    rec[at]
+    if rec.len() < at + HEADER { 0 } else { rec[at] }
 }
 
 // Whether a word may be so long.
@@ -188,49 +176,72 @@ fn is_word_length(len: usize) -> bool
     1 <= len && len <= rules::MOST_WORD
 }
 
-// Whether there are fields of this tag with contents so long.
-fn fits(tag: u8, len: usize) -> bool
-    ensures { result ≡ fits tag len }
-{
-    match tag {
-        CODE => is_word_length(len),
-        BLOCK => len == LETTER_CONTENT,
-        PLACE => len == LETTER_CONTENT,
-        NAME => is_word_length(len),
-        SINGLE => len == 0,
-        RANGE => len == RANGE_CONTENT,
-        NUMERAL => len == NUMERAL_CONTENT,
-        KEYED => is_word_length(len),
-        IDENTIFIER => is_word_length(len),
-        SYMBOLIC => is_word_length(len),
-        STRING => len <= rules::MOST_STRING,
-        0 => false,
-        12..=255 => false,
+impl Tag {
+    // The tag that has this number.
+    pub fn of(number: u8) -> Option<Tag>
+        ensures { result ≡ tag_named number }
+    {
+        match number {
+            1 => Some(Tag::Code),
+            2 => Some(Tag::Block),
+            3 => Some(Tag::Place),
+            4 => Some(Tag::Name),
+            5 => Some(Tag::Single),
+            6 => Some(Tag::Range),
+            7 => Some(Tag::Numeral),
+            8 => Some(Tag::Keyed),
+            9 => Some(Tag::Identifier),
+            10 => Some(Tag::Symbolic),
+            11 => Some(Tag::String),
+            12 => Some(Tag::Count),
+            14 => Some(Tag::OrderLength),
+            _ => None,
+        }
+    }
+
+    // Whether there are fields of this tag with contents so long.
+    #[tactic(auto, unfolding(crate::specs::Fields::fits))]
+    fn fits(self, len: usize) -> bool
+        ensures { result ≡ fits (number self) len }
+    {
+        match self {
+            Tag::Code | Tag::Name | Tag::Keyed | Tag::Identifier | Tag::Symbolic => is_word_length(
+                len,
+            ),
+            Tag::Block | Tag::Place => len == LETTER_CONTENT,
+            Tag::Single => len == 0,
+            Tag::Range => len == RANGE_CONTENT,
+            Tag::Numeral => len == NUMERAL_CONTENT,
+            Tag::String => len <= rules::MOST_STRING,
+            Tag::Count => false,
+            Tag::OrderLength => false,
+        }
     }
 }
 
 // The field that stands there, if its tag is one that there is, with a content as long as that tag's may be.
-pub fn field_at(rec: &[u8], at: usize) -> Found
+pub fn field_at(rec: &[u8], at: usize) -> Option<Field>
     requires { at ≤ length rec.now }
     ensures { result ≡ field_at rec.now at }
 {
     let left = rec.len() - at;
     if left < HEADER {
-        return Found::Nothing;
+        return None;
     }
     let len = content_len(rec[at + 1], rec[at + 2]);
     if left - HEADER < len {
-        return Found::Nothing;
+        return None;
     }
-    let tag = rec[at];
-    if fits(tag, len) {
-        return Found::Field {
-            tag: tag,
-            start: at + HEADER,
-            next: at + HEADER + len,
-        };
+    let tag = Tag::of(rec[at])?;
+    if !tag.fits(len) {
+        return None;
     }
-    Found::Nothing
+    let start = at + HEADER;
+    Some(Field {
+        tag,
+        start,
+        next: start + len,
+    })
 }
 
 // Where the field that stands there ends; at the record's end there is none.
@@ -239,30 +250,27 @@ pub fn after(rec: &[u8], at: usize) -> usize
     ensures { result ≡ at + field_size (drop at rec.now) }
 {
     if at < rec.len() {
-        return at + field_end(rec[at + 1], rec[at + 2]);
+        at + field_end(rec[at + 1], rec[at + 2])
+    } else {
+        at
     }
-    at
 }
 
-// Whether the tag is one of those from `low` to `high`.
-fn is_between(tag: u8, low: u8, high: u8) -> bool
-    ensures { result ≡ between low high tag }
+// Whether the byte is a tag from `low` to `high`.
+fn is_between(tag: u8, low: Tag, high: Tag) -> bool
+    ensures { result ≡ between (number low) (number high) tag }
 {
-    low <= tag && tag <= high
+    low as u8 <= tag && tag <= high as u8
 }
 
 // Where the fields end that stand there one behind the other with tags from `low` to `high`.
-pub fn run_end(rec: &[u8], at: usize, low: u8, high: u8) -> usize
+pub fn run_end(rec: &[u8], at: usize, low: Tag, high: Tag) -> usize
     requires { Whole rec.now at }
-    ensures { RunsTo low high rec.now at result }
+    ensures { RunsTo (number low) (number high) rec.now at result }
 {
     let mut end = at;
-    while end < rec.len() {
-        if is_between(rec[end], low, high) {
-            end = after(rec, end);
-        } else {
-            return end;
-        }
+    while end < rec.len() && is_between(rec[end], low, high) {
+        end = after(rec, end);
     }
     end
 }
@@ -273,5 +281,5 @@ pub fn element_end(rec: &[u8], at: usize) -> usize
     ensures { ElementTo rec.now at result }
 {
     let units = after(rec, at);
-    run_end(rec, units, NUMERAL, STRING)
+    run_end(rec, units, Tag::Numeral, Tag::String)
 }

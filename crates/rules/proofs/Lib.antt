@@ -45,6 +45,8 @@ pub mod Indexed
 pub mod RowCalls
 pub mod ListBound
 pub mod AnswersFit
+pub mod ReasonNumbers
+pub mod ReasonBack
 pub mod KeeperIsList
 pub mod ReadyLine
 pub mod KeptLines

@@ -12,9 +12,9 @@ use lib.ListN.{length, get_or, take, drop, length-append}
 use lib.Seq.{drop_at, take-append_seam, drop-append_seam}
 use borrow.Author.Tests.{eqb-true, eq-eqb, ne_eqb, leb-true, le-leb, lt-leb, ltb-true, lt-ltb, le-ltb}
 use Rattle.laws.specs.Cases.{by_bool}
+use Rattle.std.proofs.Common.{Ok, Err}
 use Rattle.laws.specs.Over.{over}
-use Rattle.rules.specs.declared.Answer.{Answer}
-use Rattle.rules.specs.declared.Answer.TheVariants.{Done, Refused}
+use Rattle.rules.specs.Reasons.{refusal}
 use Rattle.rules.specs.Refusals.{Res, ok, bad, map_r, no_such_order, no_such_place, wrong_row}
 use Rattle.rules.specs.Commands.{Place, place, Command}
 use Rattle.rules.specs.Reading.{read}
@@ -23,7 +23,7 @@ use Rattle.rules.specs.WellFormed.{well_formed, record_of}
 use Rattle.rules.specs.Orders.{count, order_at}
 use Rattle.rules.specs.Positions.{place_of}
 use Rattle.rules.specs.Indexes.{offsets, place_bytes, agreeing}
-use Rattle.rules.specs.Answers.{reading, order_of, ordering, reading_row, ordering_row, placing, answered, value_of, part_of, part_at, RowPromise, Places, HandsBack}
+use Rattle.rules.specs.Answers.{reading, order_of, ordering, reading_row, ordering_row, placing, answered, value_of, Answer, part_of, part_at, RowPromise, Places, HandsBack}
 use Rattle.rules.proofs.EncodeDecode.{record_is, record_of_lem}
 use Rattle.rules.proofs.Indexed.{index_is, indexed_fitted}
 use Rattle.rules.proofs.OrderWellFormed.{order_wf}
@@ -158,11 +158,11 @@ part_of_record r row n w e =
 -- what the call promises of its answer and of the part
 module _ (r : Bor (List ℕ)) (row : List ℕ) (n : ℕ) (answer : Answer) (part : Bor (List ℕ)) (a : Places r.now row n answer) (b : HandsBack r row n part) where
   pub part_lies : (w : List ℕ) → placing r.now row n ≡ ok w
-      → (answer ≡ Done (length w)) × (part.now ≡ w) × (part.ref_ptr.0 ≡ r.ref_ptr.0) × (part.ref_ptr.1 ≡ r.ref_ptr.1 + get_or row n 0)
+      → (answer ≡ Ok (length w)) × (part.now ≡ w) × (part.ref_ptr.0 ≡ r.ref_ptr.0) × (part.ref_ptr.1 ≡ r.ref_ptr.1 + get_or row n 0)
   part_lies w h =
       (a ∙ ap (λ x. answered (map_r length x)) h, b.holds ∙ ap part_of h, b.within, b.lies ∙ ap (λ x. r.ref_ptr.1 + part_at x (get_or row n 0)) h)
 
-  pub no_part : (nr p : ℕ) → placing r.now row n ≡ bad nr p → (answer ≡ Refused nr p) × (part.now ≡ [])
+  pub no_part : (nr p : ℕ) → placing r.now row n ≡ bad nr p → (answer ≡ Err (refusal nr p)) × (part.now ≡ [])
   no_part nr p h = (a ∙ ap (λ x. answered (map_r length x)) h, b.holds ∙ ap part_of h)
 
 -- ---- asking by a row that was filled

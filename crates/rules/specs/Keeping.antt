@@ -2,13 +2,12 @@
 use Rattle.std.specs.Prelude.{ℕ, suc, ◌+◌, ◌-◌, ◌≤◌, ◌≡◌, Bool, true, false, ◌&&◌, List, [], ◌∷◌, ◌++◌, eqb, ltb, leb, length, take, set}
 use Rattle.laws.specs.Cases.{pick}
 use Rattle.laws.specs.Lists.{is_nil}
-use Rattle.rules.specs.declared.Answer.{Answer}
 use Rattle.rules.specs.declared.Keeper.{Keeper}
 use Rattle.rules.specs.declared.Pressed.{Pressed}
 use Rattle.rules.specs.Refusals.{Res, ok, bad, ◌>>=◌, map_r, guard, no_key, most_text}
 use Rattle.rules.specs.Characters.{byte}
 use Rattle.rules.specs.Tokens.{State, idle, in_word, in_plus, one_amp, two_amp, slash, comment, star, in_str, quote, Step, stay, emit, step}
-use Rattle.rules.specs.Answers.{answered}
+use Rattle.rules.specs.Answers.{Answer, answered}
 
 -- ---- "A `;` outside string and comment makes the line ready": what is string and comment, the scan's own states say
 

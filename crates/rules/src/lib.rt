@@ -2,61 +2,90 @@
 // refusals and the limits are the only code.
 #![tactic(auto)]
 
-// What a call answers: the bytes written (for count the number of orders, for member 0 or 1 and the position, for place the length of its fields), or the refusal's number and its place.
-#[derive(Clone, Copy)]
-pub enum Answer {
-    Done(u32),
-    Refused(u8, u32),
+ghost use Rattle.std.specs.Prelude.{◌≡◌};
+ghost use Rattle.rules.specs.Reasons.{number};
+
+// Why a call refuses: the numbers of the tables, as `Refusals` has them.
+#[derive(Clone, Copy, Debug, PartialEq, Eq)]
+pub enum Reason {
+    // A wrong base letter, or a 33rd.
+    WrongLetter = 1,
+    // A text of more bytes than MOST_TEXT.
+    TooLong = 2,
+    // A byte that is not permitted.
+    NotPermitted = 3,
+    // A string or a comment that is not closed.
+    Unclosed = 4,
+    // A byte that begins no token.
+    NoToken = 5,
+    // No `;` token.
+    NoEnd = 6,
+    // A token after the first `;`.
+    AfterEnd = 7,
+    // A code that is wrong.
+    WrongCode = 8,
+    // A place whose kind is not its block's.
+    KindDiffers = 9,
+    // A name that is wrong.
+    WrongName = 10,
+    // Units and joining separators that do not alternate, or a named value that is empty.
+    WrongShape = 11,
+    // A unit that cannot be read.
+    Unreadable = 12,
+    // A numeral that is too big, or has too many fraction digits.
+    TooBig = 13,
+    // A group rule that is broken.
+    GroupBroken = 14,
+    // A word or a string that is too long; a block, a place or an element too many.
+    TooMany = 15,
+    // More arguments of a value, or more orders, than there may be.
+    TooManyOrders = 16,
+    // A buffer that is too short.
+    NoRoom = 17,
+    // A record that is not well formed.
+    NotWellFormed = 18,
+    // An order that is not below the count.
+    NoSuchOrder = 19,
+    // A key to a keeper that cannot hold it.
+    NoKey = 20,
+    // A name that stands already in its block.
+    NameTwice = 21,
+    // A place that there is not, or that is omitted.
+    NoSuchPlace = 26,
+    // An argument that could not stand in its place.
+    WrongArgument = 27,
+    // A row that is shorter than the places, or of which a slot differs.
+    WrongRow = 28,
 }
 
-// The refusals' numbers, as `Refusals` has them. A wrong base letter, or a 33rd.
-pub const WRONG_LETTER: u8 = 1;
-// A text of more bytes than MOST_TEXT.
-pub const TOO_LONG: u8 = 2;
-// A byte that is not permitted.
-pub const NOT_PERMITTED: u8 = 3;
-// A string or a comment that is not closed.
-pub const UNCLOSED: u8 = 4;
-// A byte that begins no token.
-pub const NO_TOKEN: u8 = 5;
-// No `;` token.
-pub const NO_END: u8 = 6;
-// A token after the first `;`.
-pub const AFTER_END: u8 = 7;
-// A code that is wrong.
-pub const WRONG_CODE: u8 = 8;
-// A place whose kind is not its block's.
-pub const KIND_DIFFERS: u8 = 9;
-// A name that is wrong.
-pub const WRONG_NAME: u8 = 10;
-// Units and joining separators that do not alternate, or a named value that is empty.
-pub const WRONG_SHAPE: u8 = 11;
-// A unit that cannot be read.
-pub const UNREADABLE: u8 = 12;
-// A numeral that is too big, or has too many fraction digits.
-pub const TOO_BIG: u8 = 13;
-// A group rule that is broken.
-pub const GROUP_BROKEN: u8 = 14;
-// A word or a string that is too long; a block, a place or an element too many.
-pub const TOO_MANY: u8 = 15;
-// More arguments of a value, or more orders, than there may be.
-pub const TOO_MANY_ORDERS: u8 = 16;
-// A buffer that is too short.
-pub const NO_ROOM: u8 = 17;
-// A record that is not well formed.
-pub const NOT_WELL_FORMED: u8 = 18;
-// An order that is not below the count.
-pub const NO_SUCH_ORDER: u8 = 19;
-// A key to a keeper that cannot hold it.
-pub const NO_KEY: u8 = 20;
-// A name that stands already in its block.
-pub const NAME_TWICE: u8 = 21;
-// A place that there is not, or that is omitted.
-pub const NO_SUCH_PLACE: u8 = 26;
-// An argument that could not stand in its place.
-pub const WRONG_ARGUMENT: u8 = 27;
-// A row that is shorter than the places, or of which a slot differs.
-pub const WRONG_ROW: u8 = 28;
+// A refusal: why, and at which place.
+#[derive(Clone, Copy, Debug, PartialEq, Eq)]
+pub struct Refusal {
+    pub reason: Reason,
+    pub place: u32,
+}
+
+// What a call answers: the bytes written (for count the number of orders, for member 0 or 1 and the position, for place the length of its fields), or its refusal.
+pub type Answer = Result<u32, Refusal>;
+
+impl Reason {
+    // The number that the tables give it.
+    pub fn number(self) -> u8
+        ensures { result ≡ number self }
+    {
+        self as u8
+    }
+
+    // The refusal for this reason at a place.
+    pub fn at(self, place: u32) -> Refusal
+        ensures { result ≡ record { reason = self; place = place } }
+    {
+        Refusal {
+            reason: self,
+            place,
+        }
+    }
+}
 
 // The limits, as `Refusals` has them. Base letters of a list.
 pub const MOST_LETTERS: usize = 32;

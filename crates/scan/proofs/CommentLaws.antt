@@ -10,7 +10,7 @@ use Rattle.laws.specs.Cases.{by_bool}
 use Rattle.rules.specs.Characters.{byte}
 use Rattle.rules.specs.Tokens.{idle, comment, star}
 use Rattle.scan.specs.Along.{run_at, Closes, IsComment}
-use Rattle.scan.specs.declared.CommentEnd.TheVariants.{Nowhere}
+use Rattle.std.proofs.Common.{None}
 use Rattle.scan.proofs.RunLaws.{run_end, run_step, stayed, stayed_next, inside}
 
 -- the loop's invariant: from i to r the automaton stays in the comment
@@ -57,5 +57,5 @@ module _ {s : List ℕ} {i₀ i : ℕ} (v : Commenting s i₀ i) where
         inside = omega arith;
       }
 
-  pub comment_end : length s ≤ i → IsComment s i₀ Nowhere
+  pub comment_end : length s ≤ i → IsComment s i₀ None
   comment_end h q = v.reads q ∙ run_end (comment q) s i h

@@ -13,7 +13,15 @@ use borrow.Author.Tests.{ltb-true, ltb-false}
 use Rattle.laws.specs.Cases.{by_bool}
 use Rattle.rules.specs.Tokens.{State, idle, flush, and_then, stay, fresh, end, step, next}
 use Rattle.rules.proofs.ScanBack.{next_after, then_nil}
-use Rattle.scan.specs.Along.{run_at}
+use Rattle.rules.specs.Reasons.{number}
+use Rattle.rules.specs.Refusals.{Res, bad}
+use Rattle.rules.specs.declared.Reason.{Reason}
+use Rattle.rules.specs.declared.Refusal.{Refusal}
+use Rattle.scan.specs.Along.{run_at, RefusedBy}
+
+-- what is refused with a reason at a place is refused by that refusal
+pub refuses : {A : Type 0} {x : Res A} {r : Reason} {p : ℕ} (e : Refusal) → e ≡ record { reason = r; place = p } → x ≡ bad (number r) p → RefusedBy x e
+refuses e q h = h ∙ rw q
 
 module _ (st : State) (s : List ℕ) (i : ℕ) where
   pub run_end : length s ≤ i → run_at st s i ≡ flush st

@@ -1,7 +1,7 @@
 -- Format effectors change none of the five states between and inside words and separators, since each tests for them and stays.
 use Prim.Native.Nat.{ℕ, ◌+◌, ◌<◌, ◌≤◌}
 use mathlib.Core.Path.{◌≡◌, refl, sym, ap, ◌∙◌}
-use mathlib.Core.Bool.{true, false}
+use mathlib.Core.Bool.{Bool, true, false, not}
 use mathlib.Core.List.{List}
 use native.Mathlib.Omega.{arith}
 use lib.Dec.{eqb}
@@ -9,8 +9,12 @@ use lib.ListN.{length, get_or, get_or-eq_default}
 use borrow.Author.Tests.{eqb-true}
 use Rattle.rules.specs.Characters.{byte, is_word_char, is_effector}
 use Rattle.rules.specs.Tokens.{State, idle, in_word, in_plus, one_amp, two_amp}
-use Rattle.chars.specs.Classes.{class_of, effector_class}
-use Rattle.chars.proofs.ClassLaws.{effector_yes, effector_no, is_word, is_effector_lem, is_plus, is_amp, is_dash, is_comma, is_colon, is_equals, is_semi, is_slash, is_mark}
+use denote.Enum.Bare.{sameb, differs_true, differs_false}
+use Rattle.chars.specs.contracts.Class.{the_type}
+use Rattle.chars.specs.declared.Class.{Class}
+use Rattle.chars.specs.declared.Class.TheVariants.{Effector}
+use Rattle.chars.specs.Classes.{class_of, number, effector_class}
+use Rattle.chars.proofs.ClassLaws.{other_class_of, effector_yes, effector_no, is_word, is_effector_lem, is_plus, is_amp, is_dash, is_comma, is_colon, is_equals, is_semi, is_slash, is_mark}
 use Rattle.scan.specs.Along.{run_at, Skips, Skipped}
 use Rattle.scan.proofs.RunLaws.{stayed}
 
@@ -60,16 +64,23 @@ pub skip_none : (s : List ℕ) (i : ℕ) → i ≤ length s → Skipping s i i
 skip_none s i h = record { reads = λ st f. refl; past = omega arith; inside = h }
 
 module _ (s : List ℕ) (i₀ i : ℕ) (v : Skipping s i₀ i) where
-  pub skip_more : {k : ℕ} → i < length s → k ≡ class_of (get_or s i 0) → k ≡ effector_class → Skipping s i₀ (i + 1)
-  skip_more h e t =
+  -- b: is the byte no format effector?
+  pub skip_more : {b : Bool} (k : Class) → i < length s → number k ≡ class_of (get_or s i 0) → b ≡ not (sameb the_type k Effector) → b ≡ false → Skipping s i₀ (i + 1)
+  skip_more {b} k h e d f =
+      let t : k ≡ Effector = differs_false the_type tt k Effector (sym d ∙ f) in
       record {
-        reads = λ st f. v.reads st f ∙ stayed st st s i h (f i (get_or s i 0) (effector_yes (get_or s i 0) e t));
+        reads = λ st f. v.reads st f ∙ stayed st st s i h (f i (get_or s i 0) (effector_yes (get_or s i 0) e (ap number t)));
         past = omega (arith, v.past);
         inside = omega arith;
       }
 
-  pub skip_stop : {k : ℕ} → k ≡ class_of (get_or s i 0) → (k ≡ effector_class → ⊥) → Skipped s i₀ i
-  skip_stop e n = record { reads = v.reads; stops = effector_no (get_or s i 0) e n; past = v.past; inside = v.inside }
+  pub skip_stop : {b : Bool} (k : Class) → number k ≡ class_of (get_or s i 0) → b ≡ not (sameb the_type k Effector) → b ≡ true → Skipped s i₀ i
+  skip_stop {b} k e d f =
+      let n : k ≡ Effector → ⊥ = differs_true the_type k Effector (sym d ∙ f) in
+      record { reads = v.reads; stops = effector_no (get_or s i 0) e (other_class_of n); past = v.past; inside = v.inside }
 
-  pub skip_end : length s ≤ i → Skipped s i₀ i
-  skip_end h = record { reads = v.reads; stops = ap is_effector (get_or-eq_default s 0 h); past = v.past; inside = v.inside }
+  pub skip_end : length s ≤ i → Skipped s i₀ (length s)
+  skip_end h =
+      let e : i ≡ length s = omega (arith, v.inside) in
+      let stops : is_effector (get_or s i 0) ≡ false = ap is_effector (get_or-eq_default s 0 h) in
+      rw (← e) (record { reads = v.reads; stops = stops; past = v.past; inside = v.inside })

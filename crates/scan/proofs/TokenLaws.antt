@@ -1,36 +1,47 @@
 -- Tokens: what the automaton does over each stretch, from its first byte on, is one token and the rest of the text; the limits are those of the rules.
 use Prim.Native.Nat.{ℕ, ◌+◌, ◌<◌, ◌≤◌}
-use mathlib.Core.Path.{◌≡◌, refl, sym, ◌∙◌, subst}
+use mathlib.Core.Path.{◌≡◌, refl, sym, ap, ◌∙◌, subst}
 use mathlib.Core.Bool.{true, false, cond}
 use mathlib.Core.List.{List, [], ◌∷◌}
 use native.Mathlib.Omega.{arith}
-use lib.Dec.{eqb, ltb, leb}
+use lib.Dec.{eqb, leb}
 use lib.ListN.{length, get_or, take}
 use lib.Seq.{length-take-le, get_or-take}
-use borrow.Author.Tests.{eq-eqb, ne_eqb, eqb-true, le-leb, lt-leb, ltb-true, ltb-false}
-use Rattle.laws.specs.Cases.{by_bool, cond_both}
+use borrow.Author.Tests.{eq-eqb, ne_eqb, eqb-true, le-leb, lt-leb}
+use Rattle.laws.specs.Cases.{cond_both}
 use Rattle.rules.specs.Characters.{byte}
 use Rattle.rules.specs.Refusals.{Res, ok, bad, unclosed, no_token, too_many, most_word, most_prefixed, most_string}
-use Rattle.rules.specs.Tokens.{Sep, dash, comma, colon, equals, semi, plusplus, word, sep, sep_code, Token, at, idle, in_word, in_plus, one_amp, slash, in_str, word_most, word_token, Step, stay, emit, fresh, one_sep, and_then}
-use Rattle.chars.specs.Classes.{class_of, no_class, word_class, plus_class, amp_class, effector_class, slash_class, mark_class, other_class}
-use Rattle.chars.proofs.ClassLaws.{is_word, is_effector_lem, is_plus, is_amp, is_dash, is_comma, is_colon, is_equals, is_semi, is_slash, is_mark, few}
-use Rattle.token_table.specs.Table.{lex_of_kind, word_kind, string_kind}
+use Rattle.rules.specs.Tokens.{Sep, dash, comma, colon, equals, semi, word, sep, sep_code, Token, at, idle, in_word, in_plus, one_amp, slash, in_str, word_most, word_token, Step, stay, emit, fresh, one_sep, and_then}
+use Rattle.chars.specs.declared.Class.{Class}
+use Rattle.chars.specs.declared.Class.TheVariants.{NotPermitted, Word, Plus, Ampersand, Effector, Dash, Comma, Colon, Equals, Semicolon, Slash, Mark, Other}
+use Rattle.chars.specs.Classes.{class_of, number, word_class, plus_class, amp_class, effector_class, slash_class, mark_class}
+use Rattle.chars.proofs.ClassLaws.{is_word, is_effector_lem, is_plus, is_amp, is_dash, is_comma, is_colon, is_equals, is_semi, is_slash, is_mark}
+use Rattle.token_table.specs.Table.{lex_of_kind, string_kind}
 use Rattle.scan.specs.Along.{run_at, Skipped, IsWord, Ends, IsString, IsAmp, Begins}
-use Rattle.scan.specs.declared.StringEnd.{StringEnd}
-use Rattle.scan.specs.declared.StringEnd.TheVariants.{Closed, Open}
+use Rattle.std.proofs.Common.{Option, None, Result, Ok, Err}
+use Rattle.rules.specs.declared.Refusal.{Refusal}
+use Rattle.token_table.specs.declared.Kind.{Kind}
+use Rattle.token_table.specs.declared.Kind.TheVariants.{PlusPlus, Dash as DashKind, Comma as CommaKind, Colon as ColonKind, Equals as EqualsKind, Semicolon as SemicolonKind, Word as WordKind, String as StringKind}
+use Rattle.token_table.specs.Table.{number as kind_number}
+use Rattle.scan.specs.declared.Content.{Content}
 use Rattle.scan.proofs.RunLaws.{run_step, stayed, inside}
 use Rattle.scan.proofs.SkipLaws.{skips_plus}
 use Rattle.scan.proofs.WordLaws.{plus_word}
-use Rattle.scan.specs.Scanned.{IsScanned, IsToken, IsSep}
+use Rattle.scan.specs.Scanned.{IsScanned, IsOne, IsToken, IsSep}
 use Rattle.scan.specs.declared.Scanned.{Scanned}
-use Rattle.scan.specs.declared.Scanned.TheVariants.{Token as TokenIs, End, Refused}
+
+-- a token of a kind at a place, its content of n bytes, up to e
+abbrev pub scanned : Kind → ℕ → ℕ → ℕ → Scanned
+scanned k p n e = record { kind = k; place = p; len = n; next = record { at = e } }
 
 -- the same promise for what gives the same
-pub again : {x y : Res (List Token)} (s : List ℕ) (i j : ℕ) (out : List ℕ) (r : Scanned) → y ≡ x → j ≤ i → IsScanned x s i out r → IsScanned y s j out r
-again s i j out (TokenIs p n c k) q h t =
+pub again : {x y : Res (List Token)} (s : List ℕ) (i j : ℕ) (out : List ℕ) (t : Scanned) → y ≡ x → j ≤ i → IsOne x s i out t → IsOne y s j out t
+again s i j out r q h t =
     record { reads = q ∙ t.reads; few = t.few; place = t.place; fits = omega (arith, t.fits); past = omega (arith, t.past); inside = t.inside }
-again s i j out End q h t = q ∙ t
-again s i j out (Refused n p) q h t = q ∙ t
+
+again_all : {x y : Res (List Token)} (s : List ℕ) (i : ℕ) (out : List ℕ) (r : Result Scanned Refusal) → y ≡ x → IsScanned x s i out r → IsScanned y s i out r
+again_all s i out (Ok r) q t = again s i i out r q (omega arith) t
+again_all s i out (Err e) q t = q ∙ t
 
 -- a token at the place i, up to e
 its_token : {x : Res (List Token)} {s out : List ℕ} {k i n e : ℕ} → x ≡ and_then (ok (at i (lex_of_kind k (take n out)) ∷ [])) (run_at idle s e) → k ≤ string_kind → n + i ≤ e → i < e
@@ -57,11 +68,11 @@ module _ {s : List ℕ} {i first : ℕ} {out : List ℕ} {n e : ℕ} (v : IsWord
   its_length : length (take n out) ≡ n
   its_length = length-take-le n out (omega (arith, v.fits, v.inside))
 
-  accepted : length (take n out) ≤ word_most (take n out) → IsScanned (run_at (in_word q (first ∷ [])) s i) s q out (TokenIs q n (record { at = e }) word_kind)
+  accepted : length (take n out) ≤ word_most (take n out) → IsOne (run_at (in_word q (first ∷ [])) s i) s q out (scanned WordKind q n e)
   unfolding lex_of_kind
   accepted g = its_token (v.reads q ∙ rw (short_word q (take n out) g)) (omega arith) (omega (arith, v.fits)) (omega (arith, v.past)) v.inside
 
-  pub word_short : n ≤ most_word → IsScanned (run_at (in_word q (first ∷ [])) s i) s q out (TokenIs q n (record { at = e }) word_kind)
+  pub word_short : n ≤ most_word → IsOne (run_at (in_word q (first ∷ [])) s i) s q out (scanned WordKind q n e)
   word_short g = accepted (omega (arith, its_length, at_least (take n out)))
 
   pub word_long : most_prefixed < n → run_at (in_word q (first ∷ [])) s i ≡ bad too_many q
@@ -74,7 +85,7 @@ module _ {s : List ℕ} {i first : ℕ} {out : List ℕ} {n e : ℕ} (v : IsWord
     second : get_or (take n out) 1 0 ≡ get_or out 1 0
     second = get_or-take n out 1 0 (omega arith)
 
-    pub word_prefixed : n ≤ most_prefixed → get_or out 1 0 ≡ byte "'" → IsScanned (run_at (in_word q (first ∷ [])) s i) s q out (TokenIs q n (record { at = e }) word_kind)
+    pub word_prefixed : n ≤ most_prefixed → get_or out 1 0 ≡ byte "'" → IsOne (run_at (in_word q (first ∷ [])) s i) s q out (scanned WordKind q n e)
     word_prefixed l t =
         let m : word_most (take n out) ≡ most_prefixed = rw (second, eq-eqb (get_or out 1 0) (byte "'") t) in
         accepted (omega (arith, its_length))
@@ -90,15 +101,15 @@ module _ (s : List ℕ) (i : ℕ) {j b : ℕ} (y : get_or s i 0 ≡ byte "+") (z
   begun : run_at idle s i ≡ run_at (in_plus i [] i) s j
   begun = stayed idle (in_plus i [] i) s i (inside s i y) (rw y) ∙ z.reads (in_plus i [] i) (skips_plus i [] i)
 
-  pub plus_double : b ≡ byte "+" → (out : List ℕ) → IsScanned (run_at idle s i) s i out (TokenIs i 0 (record { at = j + 1 }) (sep_code plusplus))
+  pub plus_double : b ≡ byte "+" → (out : List ℕ) → IsOne (run_at idle s i) s i out (scanned PlusPlus i 0 (j + 1))
   unfolding lex_of_kind
   plus_double t out =
       let u : get_or s j 0 ≡ byte "+" = sym g ∙ t in
       let k : j < length s = inside s j u in
       its_token (begun ∙ run_step (in_plus i [] i) s j k ∙ rw u) (omega arith) (omega (arith, z.past)) (omega (arith, z.past)) (omega arith)
 
-  pub plus_one : (b ≡ byte "+" → ⊥) → (out : List ℕ) (r : Scanned) → IsScanned (run_at (in_word i (byte "+" ∷ [])) s j) s i out r → IsScanned (run_at idle s i) s i out r
-  plus_one m out r t = again s i i out r (begun ∙ plus_word i [] i s j (λ u. m (g ∙ u)) z.stops) (omega arith) t
+  pub plus_one : (b ≡ byte "+" → ⊥) → (out : List ℕ) (r : Result Scanned Refusal) → IsScanned (run_at (in_word i (byte "+" ∷ [])) s j) s i out r → IsScanned (run_at idle s i) s i out r
+  plus_one m out r t = again_all s i out r (begun ∙ plus_word i [] i s j (λ u. m (g ∙ u)) z.stops) t
 
 -- ---- strings
 
@@ -106,17 +117,14 @@ module _ (s : List ℕ) (i : ℕ) (y : get_or s i 0 ≡ byte "\"") where
   opened : run_at idle s i ≡ run_at (in_str i []) s (i + 1)
   opened = stayed idle (in_str i []) s i (inside s i y) (rw y)
 
-  pub string_never : (out : List ℕ) {r : StringEnd} → IsString s (i + 1) out r → r ≡ Open → run_at idle s i ≡ bad unclosed i
+  pub string_never : (out : List ℕ) {r : Option Content} → IsString s (i + 1) out r → r ≡ None → run_at idle s i ≡ bad unclosed i
   string_never out w z = opened ∙ subst (IsString s (i + 1) out) z w i
 
-  module _ (old out : List ℕ) {n e : ℕ} {r : StringEnd} (w : IsString s (i + 1) out r) (z : r ≡ Closed n e) (room : length s ≤ length old + i) (long : length out ≡ length old) where
-    v : Ends s (i + 1) out n e
-    v = subst (IsString s (i + 1) out) z w
-
+  module _ (old out : List ℕ) {n e : ℕ} (v : Ends s (i + 1) out n e) (room : length s ≤ length old + i) (long : length out ≡ length old) where
     size : length (take n out) ≡ n
     size = length-take-le n out (omega (arith, v.fits, v.inside))
 
-    pub string_fine : n ≤ most_string → IsScanned (run_at idle s i) s i out (TokenIs i n (record { at = e }) string_kind)
+    pub string_fine : n ≤ most_string → IsOne (run_at idle s i) s i out (scanned StringKind i n e)
     unfolding lex_of_kind
     string_fine h =
         let l : leb (length (take n out)) most_string ≡ true = le-leb (length (take n out)) most_string (omega (arith, size)) in
@@ -129,8 +137,8 @@ module _ (s : List ℕ) (i : ℕ) (y : get_or s i 0 ≡ byte "\"") where
 
 -- ---- `&`
 
-pub amp_token : (s : List ℕ) (i : ℕ) {k e : ℕ} → get_or s i 0 ≡ byte "&" → IsAmp s (i + 1) k e → IsSep (run_at idle s i) s i (TokenIs i 0 (record { at = e }) k)
-amp_token s i y v out =
+pub amp_token : (s : List ℕ) (i : ℕ) (k : Kind) {e : ℕ} → get_or s i 0 ≡ byte "&" → IsAmp s (i + 1) (kind_number k) e → IsSep (run_at idle s i) s i (scanned k i 0 e)
+amp_token s i k y v out =
     its_token (stayed idle (one_amp i) s i (inside s i y) (rw y) ∙ v.reads i (take 0 out)) v.few (omega (arith, v.past)) (omega (arith, v.past)) v.inside
 
 -- ---- the byte that begins a token
@@ -154,44 +162,64 @@ fresh_is : (p c : ℕ) → fresh p c ≡ by_class p c (class_of c)
 fresh_is p c =
     rw (is_word c, is_plus c, is_amp c, is_dash c, is_comma c, is_colon c, is_equals c, is_semi c, is_slash c, is_mark c, is_effector_lem c)
 
-module _ {s : List ℕ} {i k : ℕ} (v : Begins s i i k) where
-  begins : {m : ℕ} → k ≡ m → fresh i (get_or s i 0) ≡ by_class i (get_or s i 0) m
-  begins t = fresh_is i (get_or s i 0) ∙ rw (← v.class, t)
+module _ {s : List ℕ} {i : ℕ} {c : Class} (v : Begins s i i (number c)) where
+  begins : (k : Class) → c ≡ k → fresh i (get_or s i 0) ≡ by_class i (get_or s i 0) (number k)
+  begins k t = fresh_is i (get_or s i 0) ∙ rw (← v.class, t)
 
-  pub starts_plus_lem : k ≡ plus_class → get_or s i 0 ≡ byte "+"
+  pub starts_plus_lem : c ≡ Plus → get_or s i 0 ≡ byte "+"
   starts_plus_lem t = eqb-true (get_or s i 0) (byte "+") (is_plus (get_or s i 0) ∙ rw (← v.class, t))
 
-  pub starts_amp : k ≡ amp_class → get_or s i 0 ≡ byte "&"
+  pub starts_amp : c ≡ Ampersand → get_or s i 0 ≡ byte "&"
   starts_amp t = eqb-true (get_or s i 0) (byte "&") (is_amp (get_or s i 0) ∙ rw (← v.class, t))
 
-  pub starts_string : k ≡ mark_class → get_or s i 0 ≡ byte "\""
+  pub starts_string : c ≡ Mark → get_or s i 0 ≡ byte "\""
   starts_string t = eqb-true (get_or s i 0) (byte "\"") (is_mark (get_or s i 0) ∙ rw (← v.class, t))
 
-  pub starts_word : k ≡ word_class → (out : List ℕ) (r : Scanned) → IsScanned (run_at (in_word i (get_or s i 0 ∷ [])) s (i + 1)) s i out r → IsScanned (run_at idle s i) s i out r
-  starts_word t out r w = again s i i out r (stayed idle (in_word i (get_or s i 0 ∷ [])) s i v.inside (begins t)) (omega arith) w
+  pub starts_word : c ≡ Word → (out : List ℕ) (r : Result Scanned Refusal) → IsScanned (run_at (in_word i (get_or s i 0 ∷ [])) s (i + 1)) s i out r → IsScanned (run_at idle s i) s i out r
+  starts_word t out r w = again_all s i out r (stayed idle (in_word i (get_or s i 0 ∷ [])) s i v.inside (begins Word t)) w
 
-  pub starts_other : k ≡ other_class → run_at idle s i ≡ bad no_token i
-  starts_other t = run_step idle s i v.inside ∙ rw (begins t)
+  starts_no : (k : Class) → c ≡ k → by_class i (get_or s i 0) (number k) ≡ emit (bad no_token i) idle → run_at idle s i ≡ bad no_token i
+  starts_no k t e = run_step idle s i v.inside ∙ rw (begins k t, e)
 
-  pub starts_none : k ≤ effector_class → (k ≡ word_class → ⊥) → (k ≡ plus_class → ⊥) → (k ≡ amp_class → ⊥) → run_at idle s i ≡ bad no_token i
-  starts_none h a b c =
-      let t : k ≡ no_class = omega (arith, v.solid) in
-      run_step idle s i v.inside ∙ rw (begins t)
+  -- a byte of another class
+  pub starts_none : (k : Class) → c ≡ k → (k ≡ Word → ⊥) → (k ≡ Dash → ⊥) → (k ≡ Comma → ⊥) → (k ≡ Colon → ⊥) → (k ≡ Equals → ⊥) → (k ≡ Semicolon → ⊥) → (k ≡ Mark → ⊥) → (k ≡ Ampersand → ⊥) → (k ≡ Plus → ⊥)
+      → run_at idle s i ≡ bad no_token i
+  starts_none NotPermitted t w d m n e z q a p = starts_no NotPermitted t refl
+  starts_none Other t w d m n e z q a p = starts_no Other t refl
+  starts_none Effector t w d m n e z q a p = absurd (v.solid (ap number t))
+  starts_none Slash t w d m n e z q a p = absurd (v.plain (ap number t))
+  starts_none Word t w d m n e z q a p = absurd (w refl)
+  starts_none Dash t w d m n e z q a p = absurd (d refl)
+  starts_none Comma t w d m n e z q a p = absurd (m refl)
+  starts_none Colon t w d m n e z q a p = absurd (n refl)
+  starts_none Equals t w d m n e z q a p = absurd (e refl)
+  starts_none Semicolon t w d m n e z q a p = absurd (z refl)
+  starts_none Mark t w d m n e z q a p = absurd (q refl)
+  starts_none Ampersand t w d m n e z q a p = absurd (a refl)
+  starts_none Plus t w d m n e z q a p = absurd (p refl)
 
-  -- a separator of one byte, whose class is its kind
-  separator : (out : List ℕ) (m : ℕ) (l : Sep) → k ≡ m → m ≤ string_kind → lex_of_kind m (take 0 out) ≡ sep l → by_class i (get_or s i 0) m ≡ one_sep i l
-      → IsScanned (run_at idle s i) s i out (TokenIs i 0 (record { at = i + 1 }) k)
-  separator out m l t f e b =
-      its_token (run_step idle s i v.inside ∙ rw (begins t, b, t, e)) (omega arith) (omega arith) (omega arith) (omega (arith, v.inside))
+  -- a separator of one byte
+  separator : (out : List ℕ) (k : Class) (j : Kind) (l : Sep) → c ≡ k → kind_number j ≤ string_kind → lex_of_kind (kind_number j) (take 0 out) ≡ sep l → by_class i (get_or s i 0) (number k) ≡ one_sep i l
+      → IsOne (run_at idle s i) s i out (scanned j i 0 (i + 1))
+  separator out k j l t f e b =
+      its_token (run_step idle s i v.inside ∙ rw (begins k t, b, e)) f (omega arith) (omega arith) (omega (arith, v.inside))
 
-  pub starts_one : effector_class < k → (k ≡ mark_class → ⊥) → (k ≡ other_class → ⊥) → (out : List ℕ)
-      → IsScanned (run_at idle s i) s i out (TokenIs i 0 (record { at = i + 1 }) k)
+  pub starts_dash : (out : List ℕ) → c ≡ Dash → IsOne (run_at idle s i) s i out (scanned DashKind i 0 (i + 1))
   unfolding lex_of_kind
-  starts_one h n o out =
-      let g : k < 13 = rw v.class (ltb-true (class_of (get_or s i 0)) 13 (few (get_or s i 0))) in
-      let u : k < slash_class = omega (arith, v.plain) in
-      by_bool (ltb k 6) (λ y. separator out 5 dash (omega (arith, ltb-true k 6 y)) (omega arith) refl refl) (λ y6.
-      by_bool (ltb k 7) (λ y. separator out 6 comma (omega (arith, ltb-true k 7 y, ltb-false k 6 y6)) (omega arith) refl refl) (λ y7.
-      by_bool (ltb k 8) (λ y. separator out 7 colon (omega (arith, ltb-true k 8 y, ltb-false k 7 y7)) (omega arith) refl refl) (λ y8.
-      by_bool (ltb k 9) (λ y. separator out 8 equals (omega (arith, ltb-true k 9 y, ltb-false k 8 y8)) (omega arith) refl refl) (λ y9.
-      separator out 9 semi (omega (arith, ltb-false k 9 y9)) (omega arith) refl refl))))
+  starts_dash out t = separator out Dash DashKind dash t (omega arith) refl refl
+
+  pub starts_comma : (out : List ℕ) → c ≡ Comma → IsOne (run_at idle s i) s i out (scanned CommaKind i 0 (i + 1))
+  unfolding lex_of_kind
+  starts_comma out t = separator out Comma CommaKind comma t (omega arith) refl refl
+
+  pub starts_colon : (out : List ℕ) → c ≡ Colon → IsOne (run_at idle s i) s i out (scanned ColonKind i 0 (i + 1))
+  unfolding lex_of_kind
+  starts_colon out t = separator out Colon ColonKind colon t (omega arith) refl refl
+
+  pub starts_equals : (out : List ℕ) → c ≡ Equals → IsOne (run_at idle s i) s i out (scanned EqualsKind i 0 (i + 1))
+  unfolding lex_of_kind
+  starts_equals out t = separator out Equals EqualsKind equals t (omega arith) refl refl
+
+  pub starts_semicolon : (out : List ℕ) → c ≡ Semicolon → IsOne (run_at idle s i) s i out (scanned SemicolonKind i 0 (i + 1))
+  unfolding lex_of_kind
+  starts_semicolon out t = separator out Semicolon SemicolonKind semi t (omega arith) refl refl

@@ -2,7 +2,7 @@
 use mir.Syntax.{w64}
 use mir.Val.{Fits}
 use Prim.Native.Nat.{◌*◌, ◌^◌, ℕ, ◌+◌, ◌<◌, ◌≤◌}
-use mathlib.Core.Path.{◌≡◌, refl, sym, ◌∙◌}
+use mathlib.Core.Path.{◌≡◌, refl, sym, ap, ◌∙◌}
 use mathlib.Core.Bool.{false}
 use mathlib.Core.List.{List, [], ◌∷◌, reverse, reverse-reverse}
 use native.Mathlib.Omega.{arith}
@@ -15,8 +15,10 @@ use Rattle.rules.specs.Characters.{byte, is_word_char, is_effector}
 use Rattle.rules.specs.Refusals.{Res, ok}
 use Rattle.rules.specs.Tokens.{plusplus, sep, Token, at, idle, in_word, in_plus, word_token, word_tokens, and_then}
 use Rattle.rules.proofs.ScanBack.{then_assoc, then_nil}
-use Rattle.chars.specs.Classes.{class_of, word_class, plus_class, effector_class}
-use Rattle.chars.proofs.ClassLaws.{effector_yes, effector_no, is_word, is_plus}
+use Rattle.chars.specs.declared.Class.{Class}
+use Rattle.chars.specs.declared.Class.TheVariants.{Word, Plus, Effector}
+use Rattle.chars.specs.Classes.{class_of, number, word_class, plus_class}
+use Rattle.chars.proofs.ClassLaws.{other_class_of, effector_yes, effector_no, is_word, is_plus}
 use Rattle.scan.specs.Along.{run_at, Skipped, IsWord}
 use Rattle.scan.proofs.RunLaws.{run_end, run_step, stayed, settle, inside, stored}
 use Rattle.scan.proofs.SkipLaws.{skips_word, skips_plus}
@@ -106,16 +108,16 @@ module _ {s : List ℕ} {i₀ first : ℕ} {old out : List ℕ} {n i : ℕ} (v :
   pub word_end : length s ≤ i → IsWord s i₀ first out n i
   word_end h = ends (λ q w l. rw (run_end (in_word q w) s i h, run_end idle s i h) (then_nil (word_token q (reverse w))))
 
-  module _ {k : ℕ} (h : i < length s) (e : k ≡ class_of (get_or s i 0)) where
-    pub word_char : k ≡ word_class → Wording s i₀ first old (set out n (get_or s i 0)) (n + 1) (i + 1)
+  module _ {k : Class} (h : i < length s) (e : number k ≡ class_of (get_or s i 0)) where
+    pub word_char : k ≡ Word → Wording s i₀ first old (set out n (get_or s i 0)) (n + 1) (i + 1)
     word_char t =
         more (get_or s i 0) (i + 1) (word_room h) (omega arith) (omega arith)
         (λ q w. stayed (in_word q w) (in_word q (get_or s i 0 ∷ w)) s i h (rw (is_word (get_or s i 0), ← e, t)))
 
-    pub word_skip : k ≡ effector_class → Wording s i₀ first old out n (i + 1)
+    pub word_skip : k ≡ Effector → Wording s i₀ first old out n (i + 1)
     word_skip t =
         record {
-          reads = λ q. v.reads q ∙ stayed (in_word q (reverse (take n out))) (in_word q (reverse (take n out))) s i h (skips_word q (reverse (take n out)) i (get_or s i 0) (effector_yes (get_or s i 0) e t));
+          reads = λ q. v.reads q ∙ stayed (in_word q (reverse (take n out))) (in_word q (reverse (take n out))) s i h (skips_word q (reverse (take n out)) i (get_or s i 0) (effector_yes (get_or s i 0) e (ap number t)));
           some = v.some;
           fits = omega (arith, v.fits);
           inside = omega arith;
@@ -124,16 +126,16 @@ module _ {s : List ℕ} {i₀ first : ℕ} {old out : List ℕ} {n i : ℕ} (v :
           long = v.long;
         }
 
-    pub word_other : (k ≡ word_class → ⊥) → (k ≡ effector_class → ⊥) → (k ≡ plus_class → ⊥) → IsWord s i₀ first out n i
+    pub word_other : (k ≡ Word → ⊥) → (k ≡ Effector → ⊥) → (k ≡ Plus → ⊥) → IsWord s i₀ first out n i
     word_other n1 n4 n2 =
         let c = get_or s i 0 in
-        let w1 : is_word_char c ≡ false = is_word c ∙ rw (← e) (ne_eqb k word_class n1) in
-        let w2 : eqb c (byte "+") ≡ false = is_plus c ∙ rw (← e) (ne_eqb k plus_class n2) in
-        let w4 : is_effector c ≡ false = effector_no c e n4 in
+        let w1 : is_word_char c ≡ false = is_word c ∙ rw (← e) (ne_eqb (number k) word_class (other_class_of n1)) in
+        let w2 : eqb c (byte "+") ≡ false = is_plus c ∙ rw (← e) (ne_eqb (number k) plus_class (other_class_of n2)) in
+        let w4 : is_effector c ≡ false = effector_no c e (other_class_of n4) in
         ends (λ q w l. settle (in_word q w) s i (λ p. rw (w1, w2, w4)))
 
     -- a `+`, and what stands behind it
-    module _ {j b : ℕ} (t : k ≡ plus_class) (z : Skipped s (i + 1) j) (g : b ≡ get_or s j 0) where
+    module _ {j b : ℕ} (t : k ≡ Plus) (z : Skipped s (i + 1) j) (g : b ≡ get_or s j 0) where
       plus : get_or s i 0 ≡ byte "+"
       plus = eqb-true (get_or s i 0) (byte "+") (is_plus (get_or s i 0) ∙ rw (← e, t))
 

@@ -1,16 +1,14 @@
 -- What the rules' automaton does over the stretch of text that each function reads.
-use Rattle.std.specs.Prelude.{ℕ, ◌+◌, ◌<◌, ◌≤◌, ◌≡◌, true, false, List, [], ◌∷◌, length, get_or, take, drop}
+use Rattle.std.specs.Prelude.{ℕ, ◌+◌, ◌<◌, ◌≤◌, ◌≡◌, true, false, List, [], ◌∷◌, length, get_or, take, drop, Option, Some, None, Result, Ok, Err}
 use Rattle.rules.specs.Characters.{is_effector}
 use Rattle.rules.specs.Refusals.{Res, ok, bad, unclosed}
 use Rattle.rules.specs.Tokens.{Token, at, State, idle, in_word, one_amp, comment, in_str, word_token, str_token, and_then, stay, step, run}
-use Rattle.chars.specs.Classes.{class_of, effector_class, slash_class}
+use Rattle.rules.specs.declared.Refusal.{Refusal}
+use Rattle.rules.specs.Reasons.{number as reason_number}
+use Rattle.chars.specs.Classes.{class_of, number, effector_class, slash_class}
 use Rattle.token_table.specs.Table.{lex_of_kind, string_kind}
-use Rattle.scan.specs.declared.CommentEnd.{CommentEnd}
-use Rattle.scan.specs.declared.CommentEnd.TheVariants.{At, Nowhere}
-use Rattle.scan.specs.declared.StringEnd.{StringEnd}
-use Rattle.scan.specs.declared.StringEnd.TheVariants.{Closed, Open}
-use Rattle.scan.specs.declared.Gap.{Gap}
-use Rattle.scan.specs.declared.Gap.TheVariants.{Start, End, Refused}
+use Rattle.scan.specs.declared.Content.{Content}
+use Rattle.scan.specs.declared.Start.{Start}
 
 -- the automaton on the text from place i on
 unfoldable pub run_at : State → List ℕ → ℕ → Res (List Token)
@@ -33,9 +31,9 @@ pub record Closes (s : List ℕ) (i e : ℕ) : Type 0 where
   pub past : i < e
   pub inside : e ≤ length s
 
-abbrev pub IsComment : List ℕ → ℕ → CommentEnd → Type 0
-IsComment s i (At e) = Closes s i e
-IsComment s i Nowhere = (q : ℕ) → run_at (comment q) s i ≡ bad unclosed q
+abbrev pub IsComment : List ℕ → ℕ → Option ℕ → Type 0
+IsComment s i (Some e) = Closes s i e
+IsComment s i None = (q : ℕ) → run_at (comment q) s i ≡ bad unclosed q
 
 -- the automaton, in a word of one byte at i, has read the first n bytes of out as a word at e
 pub record IsWord (s : List ℕ) (i first : ℕ) (out : List ℕ) (n e : ℕ) : Type 0 where
@@ -50,9 +48,9 @@ pub record Ends (s : List ℕ) (i : ℕ) (out : List ℕ) (n e : ℕ) : Type 0 w
   pub fits : n + i < e
   pub inside : e ≤ length s
 
-abbrev pub IsString : List ℕ → ℕ → List ℕ → StringEnd → Type 0
-IsString s i out (Closed n e) = Ends s i out n e
-IsString s i out Open = (q : ℕ) → run_at (in_str q []) s i ≡ bad unclosed q
+abbrev pub IsString : List ℕ → ℕ → List ℕ → Option Content → Type 0
+IsString s i out (Some c) = Ends s i out (Content.len c) (Content.end c)
+IsString s i out None = (q : ℕ) → run_at (in_str q []) s i ≡ bad unclosed q
 
 -- the automaton, behind a `&` at i, has read the separator of kind k at e
 pub record IsAmp (s : List ℕ) (i k e : ℕ) : Type 0 where
@@ -60,6 +58,10 @@ pub record IsAmp (s : List ℕ) (i k e : ℕ) : Type 0 where
   pub few : k ≤ string_kind
   pub past : i ≤ e
   pub inside : e ≤ length s
+
+-- what is refused, and how
+abbrev pub RefusedBy : {A : Type 0} → Res A → Refusal → Type 0
+RefusedBy x e = x ≡ bad (reason_number (Refusal.reason e)) (Refusal.place e)
 
 -- between tokens at i, the automaton is between tokens at a, where a byte of class k begins something
 pub record Begins (s : List ℕ) (i a k : ℕ) : Type 0 where
@@ -70,7 +72,7 @@ pub record Begins (s : List ℕ) (i a k : ℕ) : Type 0 where
   pub past : i ≤ a
   pub inside : a < length s
 
-abbrev pub IsGap : List ℕ → ℕ → Gap → Type 0
-IsGap s i (Start a k) = Begins s i a k
-IsGap s i End = run_at idle s i ≡ ok []
-IsGap s i (Refused n p) = run_at idle s i ≡ bad n p
+abbrev pub IsGap : List ℕ → ℕ → Result (Option Start) Refusal → Type 0
+IsGap s i (Ok (Some b)) = Begins s i (Start.at b) (number (Start.class b))
+IsGap s i (Ok None) = run_at idle s i ≡ ok []
+IsGap s i (Err e) = RefusedBy (run_at idle s i) e

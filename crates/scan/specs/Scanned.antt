@@ -1,11 +1,12 @@
 -- What the cursor answers: the token that the rules' automaton gives next, the end, or the automaton's refusal.
-use Rattle.std.specs.Prelude.{ℕ, ◌+◌, ◌<◌, ◌≤◌, ◌≡◌, List, [], ◌∷◌, length, take}
-use Rattle.rules.specs.Refusals.{Res, ok, bad}
+use Rattle.std.specs.Prelude.{ℕ, ◌+◌, ◌<◌, ◌≤◌, ◌≡◌, List, [], ◌∷◌, length, take, Option, Some, None, Result, Ok, Err}
+use Rattle.rules.specs.Refusals.{Res, ok}
 use Rattle.rules.specs.Tokens.{Token, at, idle, and_then}
-use Rattle.token_table.specs.Table.{lex_of_kind, string_kind}
-use Rattle.scan.specs.Along.{run_at}
+use Rattle.token_table.specs.Table.{number as kind_number, lex_of_kind, string_kind}
+use Rattle.scan.specs.Along.{run_at, RefusedBy}
+use Rattle.rules.specs.declared.Refusal.{Refusal}
+use Rattle.scan.specs.declared.Cursor.{Cursor}
 use Rattle.scan.specs.declared.Scanned.{Scanned}
-use Rattle.scan.specs.declared.Scanned.TheVariants.{Token as TokenIs, End, Refused}
 
 -- what x gives is a token of kind k at place p, its content the first n bytes of out, and then what the automaton gives from e on
 pub record IsToken (x : Res (List Token)) (s : List ℕ) (i : ℕ) (out : List ℕ) (k p n e : ℕ) : Type 0 where
@@ -16,11 +17,19 @@ pub record IsToken (x : Res (List Token)) (s : List ℕ) (i : ℕ) (out : List �
   pub past : i < e
   pub inside : e ≤ length s
 
-abbrev pub IsScanned : Res (List Token) → List ℕ → ℕ → List ℕ → Scanned → Type 0
-IsScanned x s i out (TokenIs p n c k) = IsToken x s i out k p n c.at
-IsScanned x s i out End = x ≡ ok []
-IsScanned x s i out (Refused n p) = x ≡ bad n p
+abbrev pub IsOne : Res (List Token) → List ℕ → ℕ → List ℕ → Scanned → Type 0
+IsOne x s i out t = IsToken x s i out (kind_number (Scanned.kind t)) (Scanned.place t) (Scanned.len t) (Cursor.at (Scanned.next t))
+
+abbrev pub IsScanned : Res (List Token) → List ℕ → ℕ → List ℕ → Result Scanned Refusal → Type 0
+IsScanned x s i out (Ok t) = IsOne x s i out t
+IsScanned x s i out (Err e) = RefusedBy x e
+
+-- the next token, or that there is none
+abbrev pub IsNext : Res (List Token) → List ℕ → ℕ → List ℕ → Result (Option Scanned) Refusal → Type 0
+IsNext x s i out (Ok (Some t)) = IsOne x s i out t
+IsNext x s i out (Ok None) = x ≡ ok []
+IsNext x s i out (Err e) = RefusedBy x e
 
 -- a token without content
 abbrev pub IsSep : Res (List Token) → List ℕ → ℕ → Scanned → Type 0
-IsSep x s i r = (out : List ℕ) → IsScanned x s i out r
+IsSep x s i t = (out : List ℕ) → IsOne x s i out t

@@ -43,10 +43,12 @@ use Rattle.rules.specs.Records.{encode}
 use Rattle.rules.specs.Orders.{orders, order_at}
 use Rattle.rules.specs.Positions.{written_out, is_argument}
 use Rattle.rules.specs.Indexes.{offsets}
-use Rattle.rules.specs.Answers.{reading, order_of, ordering, indexed, reading_row, ordering_row}
+use Rattle.rules.specs.Answers.{reading, order_of, ordering, indexed, reading_row, ordering_row, placing, number_of}
 use Rattle.rules.specs.Keeping.{held, keeper_after}
 use Rattle.grammar.proofs.Exact.{sound, complete, unique, refused}
-use Rattle.theorems.specs.Demands.{Twelve, Example84, FromTheList, AnswersFit, Decided, CountDecided, LocateDecided, RowDecided, PlaceDecided, PartDecided, KeyDecided, Exact, Unique, Refused, ReadSound, NamesDiffer, Capitals, WellFormedIsReadable, RoundTrip, NeverLonger, DecodeEncode, EncodeDecode, RecordBound, DirectIsList, CountIsLength, CountIsField, OrderCarriesOne, FieldIsAsked, Past, OrderWellFormed, OrderFits, SoleOrder, PiecesAreOrders, PiecesSplitOnce, ListThenOrder, ListRefused, PlacesFromZero, SameFields, CouldStand, PositionIsFirstIndex, FirstPosition, PositionBelow, LocateAnswers, LocateFirst, LocateRefused, RowPoints, AskedByFilledRow, FilledRowIsAsked, SlotsBeyondKept, PassedRowIsThatRow, PartOfTheRecord, PartLies, PlaceRefused, Filling, RowRefused, RowIsRead, Accepts, ReadWithoutRoom, RefusedForRoomAlone, PrintsGivenRoom, PrintWithoutRoom, PrintThenRead, ReadThenPrint, OrdersGivenRoom, OrdersAreListed, SoleOrderOnBytes, KeeperIsList, FreshKeeper, ReadyLine, AcceptedIsTyped, ReadyLast, ClassesOfBytes, RangesOfBytes, CapitalLetters, DigitsOfBases, KeyedDigits, BaseLetters, WordsByRule, UnitsOfACommand, SeparatorTexts, TableOfTags, RefusalNumbers, Limits, CellsOfRefusals, CallRows, KeyRows}
+use Rattle.rules.proofs.RefusalPlaces.{Whatever, comes_bad}
+use Rattle.rules.proofs.ReasonNumbers.{Kept, reading_kept, printing_kept, ordering_kept, counting_kept, listing_kept, locating_kept, reading_row_kept, ordering_row_kept, placing_kept, pressing_kept}
+use Rattle.theorems.specs.Demands.{Twelve, Example84, FromTheList, NumbersKept, AnswersFit, Decided, CountDecided, LocateDecided, RowDecided, PlaceDecided, PartDecided, KeyDecided, Exact, Unique, Refused, ReadSound, NamesDiffer, Capitals, WellFormedIsReadable, RoundTrip, NeverLonger, DecodeEncode, EncodeDecode, RecordBound, DirectIsList, CountIsLength, CountIsField, OrderCarriesOne, FieldIsAsked, Past, OrderWellFormed, OrderFits, SoleOrder, PiecesAreOrders, PiecesSplitOnce, ListThenOrder, ListRefused, PlacesFromZero, SameFields, CouldStand, PositionIsFirstIndex, FirstPosition, PositionBelow, LocateAnswers, LocateFirst, LocateRefused, RowPoints, AskedByFilledRow, FilledRowIsAsked, SlotsBeyondKept, PassedRowIsThatRow, PartOfTheRecord, PartLies, PlaceRefused, Filling, RowRefused, RowIsRead, Accepts, ReadWithoutRoom, RefusedForRoomAlone, PrintsGivenRoom, PrintWithoutRoom, PrintThenRead, ReadThenPrint, OrdersGivenRoom, OrdersAreListed, SoleOrderOnBytes, KeeperIsList, FreshKeeper, ReadyLine, AcceptedIsTyped, ReadyLast, ClassesOfBytes, RangesOfBytes, CapitalLetters, DigitsOfBases, KeyedDigits, BaseLetters, WordsByRule, UnitsOfACommand, SeparatorTexts, TableOfTags, RefusalNumbers, Limits, CellsOfRefusals, CallRows, KeyRows}
 use Rattle.theorems.proofs.Calls
 
 twelve_lines : Twelve
@@ -57,6 +59,20 @@ example_84 = example_is
 
 from_the_list : FromTheList
 from_the_list = (reader_list, printer_list, order_list, count_list, list_list, locate_list, read_row_list, order_row_list, place_list, key_list)
+
+numbers_kept : NumbersKept
+numbers_kept = (
+  λ letters text old n p. comes_bad Kept Whatever _ n p (reading_kept letters text old),
+  λ r old n p. comes_bad Kept Whatever _ n p (printing_kept r old),
+  λ r k old n p. comes_bad Kept Whatever _ n p (ordering_kept r k old),
+  λ r n p. comes_bad Kept Whatever _ n p (counting_kept r),
+  λ r old n p. comes_bad Kept Whatever _ n p (listing_kept r old),
+  λ r m w n p. comes_bad Kept Whatever _ n p (locating_kept r m w),
+  λ letters text old row n p. comes_bad Kept Whatever _ n p (reading_row_kept letters text old row),
+  λ r k old row n p. comes_bad Kept Whatever _ n p (ordering_row_kept r k old row),
+  λ r row m n p. comes_bad Kept Whatever _ n p (placing_kept r row m),
+  λ k c n p. comes_bad Kept Whatever _ n p (pressing_kept k c),
+)
 
 answers_fit : AnswersFit
 answers_fit = (reading_most, printing_most, ordering_most, counting_most, listing_most, locating_few, locating_most, reading_row_most, ordering_row_most, placing_few, placing_most, pressing_most)
@@ -237,7 +253,12 @@ part_of_the_record : PartOfTheRecord
 part_of_the_record = part_of_record
 
 part_lies_there : PartLies
-part_lies_there r row n answer part a b = (part_lies r row n answer part a b, no_part r row n answer part a b)
+part_lies_there r row n answer part a b = (
+  part_lies r row n answer part a b,
+  λ nr p h.
+  let q = no_part r row n answer part a b nr p h in
+  (q.0, ap number_of q.0 ∙ comes_bad Kept Whatever (placing r.now row n) nr p (placing_kept r.now row n) h, q.1),
+)
 
 place_refused : PlaceRefused
 place_refused r row n = (

@@ -1,12 +1,11 @@
 -- What was asked for, as types: the user's words, and below them the statement. `proofs/Proved` has a term of each, under a name in small letters.
 -- First the three demands; then what is asked of a record; then the same over the calls, on bytes; then the line keeper; last the witnesses, tables from the paper for what reader, grammar and printer share.
-use Rattle.std.specs.Prelude.{ℕ, suc, ◌+◌, ◌≤◌, ◌<◌, ◌≡◌, Bool, true, false, ◌&&◌, not, List, [], ◌∷◌, ◌++◌, map, eqb, length, get_or, take, drop}
+use Rattle.std.specs.Prelude.{ℕ, suc, ◌+◌, ◌≤◌, ◌<◌, ◌≡◌, Bool, true, false, ◌&&◌, not, List, [], ◌∷◌, ◌++◌, map, eqb, length, get_or, take, drop, Ok, Err}
 use Rattle.std.proofs.Math.Option.{none, some}
 use Rattle.std.specs.Borrow.{Bor}
 use Rattle.laws.specs.Keys.{any_of}
 use Rattle.laws.specs.Lists.{all, is_nil, concat}
 use Rattle.laws.specs.Over.{over}
-use Rattle.rules.specs.declared.Answer.{Answer}
 use Rattle.rules.specs.declared.Keeper.{Keeper}
 use Rattle.rules.specs.declared.Pressed.{Pressed}
 use Rattle.rules.specs.Refusals.{Res, ok, bad, map_r, wrong_letter, too_long, not_permitted, unclosed, no_token, no_end, after_end, wrong_code, kind_differs, wrong_name, wrong_shape, unreadable, too_big, group_broken, too_many, too_many_orders, no_room, not_well_formed, no_such_order, no_key, name_twice, no_such_place, wrong_argument, wrong_row, most_letters, most_text, most_word, most_prefixed, most_string, more_of_code, more_of_name, most_blocks, most_places, most_leading, most_elements, most_arguments, most_orders, most_value, most_fraction}
@@ -21,7 +20,8 @@ use Rattle.rules.specs.Orders.{orders, order_at, count}
 use Rattle.rules.specs.Listing.{joined, list_bytes, pieces_of}
 use Rattle.rules.specs.Positions.{place_of, unit_bytes, could_stand, position_of, answer_of, written_out, is_argument, first_in, IsFirst, IsNowhere}
 use Rattle.rules.specs.Indexes.{offsets}
-use Rattle.rules.specs.Answers.{reading, printing, order_of, ordering, counting, listing, locating, reading_row, ordering_row, placing, answered, value_of, Promise, Counts, Locates, RowPromise, ReadsRow, OrdersRow, Places, HandsBack}
+use Rattle.rules.specs.Reasons.{number, reason_of, refusal}
+use Rattle.rules.specs.Answers.{reading, printing, order_of, ordering, counting, listing, locating, reading_row, ordering_row, placing, Answer, answered, number_of, value_of, Promise, Counts, Locates, RowPromise, ReadsRow, OrdersRow, Places, HandsBack}
 use Rattle.rules.specs.Keeping.{ready, press, Possible, held, pressing, after_key, line_after, line_answers, keeper_after, keeper_answers}
 use Rattle.rules.proofs.Lines.{found, stated, twelve, example, example77, answer, due, limits, tally, expected}
 use Rattle.rules.proofs.FromTheList.{ReaderRefuses, PrinterRefuses, OrderRefuses, CountRefuses, ListRefuses, LocateRefuses, ReadRowRefuses, OrderRowRefuses, PlaceRefuses, KeyRefuses}
@@ -59,6 +59,20 @@ FromTheList =
     × ((r : List ℕ) (k : ℕ) (old row : List ℕ) (n p : ℕ) → ordering_row r k old row ≡ bad n p → OrderRowRefuses r k old row n p)
     × ((r row : List ℕ) (n nr p : ℕ) → placing r row n ≡ bad nr p → PlaceRefuses r row n nr p)
     × ((k : Keeper) (c n p : ℕ) → pressing k c ≡ bad n p → KeyRefuses k c n p)
+
+-- the code tells a refusal by its reason: the number of that reason is the number that the call refuses with
+abbrev pub NumbersKept : Type 0
+NumbersKept =
+    ((letters text old : List ℕ) (n p : ℕ) → reading text letters old ≡ bad n p → number (reason_of n) ≡ n)
+    × ((r old : List ℕ) (n p : ℕ) → printing r old ≡ bad n p → number (reason_of n) ≡ n)
+    × ((r : List ℕ) (k : ℕ) (old : List ℕ) (n p : ℕ) → ordering r k old ≡ bad n p → number (reason_of n) ≡ n)
+    × ((r : List ℕ) (n p : ℕ) → counting r ≡ bad n p → number (reason_of n) ≡ n)
+    × ((r old : List ℕ) (n p : ℕ) → listing r old ≡ bad n p → number (reason_of n) ≡ n)
+    × ((r : List ℕ) (m : ℕ) (w : List ℕ) (n p : ℕ) → locating r m w ≡ bad n p → number (reason_of n) ≡ n)
+    × ((letters text old row : List ℕ) (n p : ℕ) → reading_row text letters old row ≡ bad n p → number (reason_of n) ≡ n)
+    × ((r : List ℕ) (k : ℕ) (old row : List ℕ) (n p : ℕ) → ordering_row r k old row ≡ bad n p → number (reason_of n) ≡ n)
+    × ((r row : List ℕ) (m n p : ℕ) → placing r row m ≡ bad n p → number (reason_of n) ≡ n)
+    × ((k : Keeper) (c n p : ℕ) → pressing k c ≡ bad n p → number (reason_of n) ≡ n)
 
 -- bytes written, number of orders, position or place: every value fits the 32 bits that the answer has for it; 26 gives back the place number that was asked
 abbrev pub AnswersFit : Type 0
@@ -364,8 +378,8 @@ abbrev pub PartLies : Type 0
 PartLies =
     (r : Bor (List ℕ)) (row : List ℕ) (n : ℕ) (answer : Answer) (part : Bor (List ℕ)) → Places r.now row n answer → HandsBack r row n part
     → ((w : List ℕ) → placing r.now row n ≡ ok w
-    → (answer ≡ Answer.Done (length w)) × (part.now ≡ w) × (part.ref_ptr.0 ≡ r.ref_ptr.0) × (part.ref_ptr.1 ≡ r.ref_ptr.1 + get_or row n 0))
-    × ((nr p : ℕ) → placing r.now row n ≡ bad nr p → (answer ≡ Answer.Refused nr p) × (part.now ≡ []))
+    → (answer ≡ Ok (length w)) × (part.now ≡ w) × (part.ref_ptr.0 ≡ r.ref_ptr.0) × (part.ref_ptr.1 ≡ r.ref_ptr.1 + get_or row n 0))
+    × ((nr p : ℕ) → placing r.now row n ≡ bad nr p → (answer ≡ Err (refusal nr p)) × (number_of answer ≡ nr) × (part.now ≡ []))
 
 -- "when asking, 18, then 28 where the row is shorter than the places or a slot differs (place the first such slot), then 26 for no such place", and else the place's fields
 abbrev pub PlaceRefused : Type 0

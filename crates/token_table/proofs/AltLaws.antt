@@ -9,27 +9,29 @@ use borrow.Author.Tests.{eqb-true, ltb-true, ltb-false, le-leb, lt-leb}
 use lib.Dec.{leb, ltb, eqb}
 use lib.ListN.{length, get_or, drop, drop_of_length-le}
 use Rattle.laws.specs.Cases.{by_bool}
-pub use Rattle.laws.specs.Lists.{next}
 use Rattle.laws.specs.Ranges.{in_range}
 use Rattle.rules.specs.Groups.{join, alternate, Want, unit_after, joiner, is_unit, joiner_of}
 use Rattle.rules.specs.Refusals.{Res, ok, bad, map_r, wrong_shape}
 use Rattle.rules.specs.Tokens.{Sep, amp, dash, sep_code}
-use Rattle.token_table.specs.Table.{kind_in, place_in, content_in, lex_of_kind, sep_of, tokens_in, verdict, fits_kind, Alternates, word_kind}
-use Rattle.token_table.specs.declared.Verdict.{Verdict}
-use Rattle.token_table.specs.declared.Verdict.TheVariants.{Fine, Refused}
+use Rattle.token_table.specs.Table.{kind_in, place_in, content_in, lex_of_kind, sep_of, tokens_in, Verdict, verdict, fits_kind, Alternates, word_kind}
+use Rattle.token_table.specs.declared.Token.{Token as Entry}
+use Rattle.rules.specs.declared.Refusal.{Refusal}
+use Rattle.rules.specs.Reasons.{refusal}
+use Rattle.std.proofs.Common.{Ok, Err}
+use Rattle.token_table.proofs.KindLaws.{no_token, next_token}
 
 pub verdict_map : {A B : Type 0} (f : A → B) (r : Res A) → verdict (map_r f r) ≡ verdict r
 verdict_map f (ok a) = refl
 verdict_map f (bad n p) = refl
 
 -- what a verdict tells of the result that it stands for
-pub verdict_bad : {A : Type 0} (r : Res A) (n p : ℕ) → verdict r ≡ Refused n p → r ≡ bad n p
-verdict_bad (ok a) n p h = let z : ◌≡◌ {A = ℕ} 0 1 = cc in absurd (omega arith)
-verdict_bad (bad m q) n p h = let e : m ≡ n = cc in let f : q ≡ p = cc in rw (e, f)
+pub verdict_bad : {A C : Type 0} (r : Res A) (x : Refusal) → verdict r ≡ Err x → ((n p : ℕ) → r ≡ bad n p → x ≡ refusal n p → C) → C
+verdict_bad (ok a) x h k = absurd cc
+verdict_bad (bad n p) x h k = k n p refl cc
 
-pub verdict_ok : {A C : Type 0} (r : Res A) → verdict r ≡ Fine → ((a : A) → r ≡ ok a → C) → C
+pub verdict_ok : {A C : Type 0} (r : Res A) → verdict r ≡ Ok tt → ((a : A) → r ≡ ok a → C) → C
 verdict_ok (ok a) h k = k a refl
-verdict_ok (bad m q) h k = let z : ◌≡◌ {A = ℕ} 0 1 = cc in absurd (omega arith)
+verdict_ok (bad n p) h k = absurd cc
 
 -- a separator's kind is its code
 pub sep_code_lem : (k : ℕ) → k < word_kind → sep_code (sep_of k) ≡ k
@@ -63,12 +65,12 @@ wanted true s q = unit_after s q
 wanted false s q = joiner
 
 -- the rule's verdict, on kinds and places alone
-unfoldable pub alternating : Bool → List ℕ → ℕ → Verdict
-alternating true [] e = Refused wrong_shape e
-alternating false [] e = Fine
-alternating u (t ∷ ts) e = let more = alternating (not u) ts e in cond (fits_kind u (kind_in t)) more (Refused wrong_shape (place_in t))
+unfoldable pub alternating : Bool → List Entry → ℕ → Verdict
+alternating true [] e = Err (refusal wrong_shape e)
+alternating false [] e = Ok tt
+alternating u (t ∷ ts) e = let more = alternating (not u) ts e in cond (fits_kind u (kind_in t)) more (Err (refusal wrong_shape (place_in t)))
 
-pub alt_is : (ts : List ℕ) (u : Bool) (s : Sep) (q : ℕ) (cs : List ℕ) (e : ℕ) → alternating u ts e ≡ verdict (alternate (wanted u s q) (tokens_in cs ts) e)
+pub alt_is : (ts : List Entry) (u : Bool) (s : Sep) (q : ℕ) (cs : List ℕ) (e : ℕ) → alternating u ts e ≡ verdict (alternate (wanted u s q) (tokens_in cs ts) e)
 unfolding alternating
 alt_is [] true s q cs e = refl
 alt_is [] false s q cs e = refl
@@ -84,20 +86,20 @@ alt_is (t ∷ ts) false s q cs e =
     (λ y. rw (y, joiner_none k w y, alternate))
 
 -- the turns of `alternates`
-module _ (ts : List ℕ) (e i : ℕ) (u : Bool) where
-  pub alt_more : {f : Bool} {k : ℕ} {r : Verdict} → r ≡ alternating u (drop i ts) e → i < length ts → k ≡ kind_in (get_or ts i 0) → f ≡ fits_kind u k → f ≡ true → r ≡ alternating (not u) (drop (i + 1) ts) e
+module _ (ts : List Entry) (e i : ℕ) (u : Bool) where
+  pub alt_more : {f : Bool} {k : ℕ} {r : Verdict} → r ≡ alternating u (drop i ts) e → i < length ts → k ≡ kind_in (get_or ts i no_token) → f ≡ fits_kind u k → f ≡ true → r ≡ alternating (not u) (drop (i + 1) ts) e
   unfolding alternating
-  alt_more q h z g y = q ∙ rw (next ts i h, ← z, ← g, y)
+  alt_more q h z g y = q ∙ rw (next_token ts i h, ← z, ← g, y)
 
-  pub alt_stop : {f : Bool} {k p : ℕ} → alternating true ts e ≡ alternating u (drop i ts) e → i < length ts → k ≡ kind_in (get_or ts i 0) → f ≡ fits_kind u k → f ≡ false
-      → p ≡ place_in (get_or ts i 0) → Alternates ts e (Refused wrong_shape p)
+  pub alt_stop : {f : Bool} {k p : ℕ} → alternating true ts e ≡ alternating u (drop i ts) e → i < length ts → k ≡ kind_in (get_or ts i no_token) → f ≡ fits_kind u k → f ≡ false
+      → p ≡ place_in (get_or ts i no_token) → Alternates ts e (Err (refusal wrong_shape p))
   unfolding alternating
-  alt_stop q h z g y v cs = rw v (sym (q ∙ rw (next ts i h, ← z, ← g, y)) ∙ alt_is ts true amp 0 cs e)
+  alt_stop q h z g y v cs = rw v (sym (q ∙ rw (next_token ts i h, ← z, ← g, y)) ∙ alt_is ts true amp 0 cs e)
 
-  pub alt_short : alternating true ts e ≡ alternating u (drop i ts) e → length ts ≤ i → u ≡ true → Alternates ts e (Refused wrong_shape e)
+  pub alt_short : alternating true ts e ≡ alternating u (drop i ts) e → length ts ≤ i → u ≡ true → Alternates ts e (Err (refusal wrong_shape e))
   unfolding alternating
   alt_short q h y cs = sym (q ∙ rw (drop_of_length-le ts h, y)) ∙ alt_is ts true amp 0 cs e
 
-  pub alt_fine : alternating true ts e ≡ alternating u (drop i ts) e → length ts ≤ i → u ≡ false → Alternates ts e Fine
+  pub alt_fine : alternating true ts e ≡ alternating u (drop i ts) e → length ts ≤ i → u ≡ false → Alternates ts e (Ok tt)
   unfolding alternating
   alt_fine q h y cs = sym (q ∙ rw (drop_of_length-le ts h, y)) ∙ alt_is ts true amp 0 cs e

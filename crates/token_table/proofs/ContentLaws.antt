@@ -6,15 +6,14 @@ use mathlib.Core.List.{List, []}
 use native.Mathlib.Nat.{add-sub_cancel_left}
 use native.Mathlib.Omega.{arith}
 use borrow.Author.Tests.{ltb-true, ltb-false, le-ltb}
-use mir.Syntax.{w64}
-use mir.Val.{Fits}
 use lib.Dec.{ltb}
 use lib.ListN.{length, take, drop, length-take, length-drop, drop_of_length-le}
 use lib.Seq.{take_all}
 use Rattle.laws.specs.Cases.{by_bool}
+use Rattle.token_table.specs.declared.Token.{Token as Entry}
 use Rattle.token_table.specs.Table.{from_in, size_in, content_in, start_in, end_in}
 
-module _ (t n : ℕ) where
+module _ (t : Entry) (n : ℕ) where
   start_end : start_in t n ≤ end_in t n
   start_end =
       by_bool (ltb (from_in t) n)
@@ -24,7 +23,7 @@ module _ (t n : ℕ) where
   end_inside : end_in t n ≤ n
   end_inside = by_bool (ltb (from_in t + size_in t) n) (λ z. rw z (omega (arith, ltb-true (from_in t + size_in t) n z))) (λ z. rw z (omega arith))
 
-content_part : (cs : List ℕ) (t : ℕ) → take (end_in t (length cs) - start_in t (length cs)) (drop (start_in t (length cs)) cs) ≡ content_in cs t
+content_part : (cs : List ℕ) (t : Entry) → take (end_in t (length cs) - start_in t (length cs)) (drop (start_in t (length cs)) cs) ≡ content_in cs t
 unfolding content_in
 content_part cs t =
     let f = from_in t in let z = size_in t in let n = length cs in
@@ -37,11 +36,12 @@ content_part cs t =
     let x : ltb (f + z) n ≡ false = le-ltb (f + z) n (omega arith) in
     rw (y, x, drop_of_length-le cs {i = n} (omega arith), drop_of_length-le cs h, take_all {A = ℕ} z [] (omega arith), take_all {A = ℕ} (n - n) [] (omega arith)))
 
-pub content_small : (cs : List ℕ) (t : ℕ) → length (content_in cs t) ≤ 65535
-unfolding content_in size_in
-content_small cs t = omega (arith, length-take (size_in t) (drop (from_in t) cs))
+-- a content is no longer than its token says
+pub content_at_most : (cs : List ℕ) (t : Entry) → length (content_in cs t) ≤ size_in t
+unfolding content_in
+content_at_most cs t = omega (arith, length-take (size_in t) (drop (from_in t) cs))
 
-module _ (cs : List ℕ) (t : ℕ) {from to : ℕ} (f : from ≡ start_in t (length cs)) (o : to ≡ end_in t (length cs)) where
+module _ (cs : List ℕ) (t : Entry) {from to : ℕ} (f : from ≡ start_in t (length cs)) (o : to ≡ end_in t (length cs)) where
   pub cut_ordered : from ≤ to
   cut_ordered = omega (arith, start_end t (length cs))
 
@@ -54,9 +54,5 @@ module _ (cs : List ℕ) (t : ℕ) {from to : ℕ} (f : from ≡ start_in t (len
   pub cut_size : to - from ≡ length (content_in cs t)
   cut_size = rw (← cut_is) (simp (length-take, length-drop) (omega (arith, cut_inside)))
 
-  pub cut_small : length (take (to - from) (drop from cs)) < 65536
-  cut_small = rw cut_is (omega (arith, content_small cs t))
-
--- a capped size, a field's head and a content are far from the largest number
-pub size_fits : (cs : List ℕ) (t size : ℕ) {n : ℕ} → n ≡ length (content_in cs t) → size ≤ 4294967295 → Fits w64 (size + 3 + n)
-size_fits cs t size e h = omega (arith, content_small cs t)
+  pub cut_small : size_in t < 65536 → length (take (to - from) (drop from cs)) < 65536
+  cut_small h = rw cut_is (omega (arith, content_at_most cs t))

@@ -7,9 +7,10 @@ use native.Mathlib.Omega.{arith}
 use lib.ListN.{length, take, drop}
 use lib.Seq.{length-take-le, take-append-le, take-take}
 use Rattle.rules.specs.Tokens.{at}
+use Rattle.token_table.specs.declared.Token.{Token as Entry}
 use Rattle.token_table.specs.Table.{kind_in, place_in, from_in, size_in, content_in, lex_of_kind, tokens_in, Within}
 
-pub within_more : (ts : List ℕ) (m n t : ℕ) → Within m ts → m ≤ n → from_in t + size_in t ≤ n → Within n (ts ++ (t ∷ []))
+pub within_more : (ts : List Entry) (m n : ℕ) (t : Entry) → Within m ts → m ≤ n → from_in t + size_in t ≤ n → Within n (ts ++ (t ∷ []))
 within_more [] m n t w h g = (g, tt)
 within_more (x ∷ ts) m n t w h g = (omega (arith, w.0), within_more ts m n t w.1 h g)
 
@@ -20,7 +21,7 @@ part_kept (suc a) n zero cs z h k = absurd (omega arith)
 part_kept (suc a) n (suc m) [] z h k = absurd (not-suc-le-zero k)
 part_kept (suc a) n (suc m) (x ∷ cs) z h k = part_kept a n m cs z (omega arith) (le_of_suc-le-suc k)
 
-pub kept : (ts : List ℕ) (m : ℕ) (cs z : List ℕ) → Within m ts → m ≤ length cs → tokens_in (take m cs ++ z) ts ≡ tokens_in cs ts
+pub kept : (ts : List Entry) (m : ℕ) (cs z : List ℕ) → Within m ts → m ≤ length cs → tokens_in (take m cs ++ z) ts ≡ tokens_in cs ts
 unfolding content_in
 kept [] m cs z w h = refl
 kept (t ∷ ts) m cs z w h =

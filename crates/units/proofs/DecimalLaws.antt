@@ -8,14 +8,14 @@ use lib.ListN.{length, get_or}
 use lib.Dec.{leb, ltb, eqb}
 use borrow.Author.Tests.{lt-leb, le-leb, le-ltb, eqb-true, leb-true}
 use Rattle.laws.specs.Cases.{by_bool, and_l}
-use Rattle.units.specs.declared.Word.{Word as Answer}
 use Rattle.rules.specs.Characters.{byte, capital, between, is_digit}
 use Rattle.rules.specs.Units.{digit_value, numeral, base_at}
 use Rattle.digits.specs.declared.Run.{Run}
 use Rattle.digits.specs.Digits.{digits_at}
 use Rattle.digits.proofs.RunLaws.{run_length, run_yes, run_no, run_none, run_end}
-use Rattle.units.specs.declared.Word.TheVariants.{Unreadable}
-use Rattle.units.specs.Words.{sized, plain_unit, of_numeral, unit_under}
+use Rattle.std.proofs.Common.{Err}
+use Rattle.units.specs.declared.Fault.TheVariants.{Unreadable}
+use Rattle.units.specs.Words.{Answer, sized, plain_unit, of_numeral, unit_under}
 use Rattle.units.proofs.NumeralLaws.{plain_is}
 use Rattle.units.proofs.WordLaws.{sized_name}
 
@@ -57,19 +57,15 @@ not_decimal c y =
     (λ z. let h : 65 ≤ l = leb-true 65 l (and_l (leb 65 l) (leb l 70) z) in rw (y, z) (le-ltb (l - 55) 10 (omega arith)))
     (λ z. rw (y, z))
 
-pub start_empty : (w : List ℕ) → length w ≡ 0 → false ≡ is_digit (get_or w 0 0)
-start_empty [] h = refl
-start_empty (c ∷ cs) h = absurd (omega arith)
-
 start_none : (w : List ℕ) → is_digit (get_or w 0 0) ≡ false → run_length 10 w ≡ 0
 start_none [] y = run_none 10
 start_none (c ∷ cs) y = run_no 10 c cs (not_decimal c y)
 
-none_plain : (w : List ℕ) → run_length 10 w ≡ 0 → plain_unit (byte "D") w 0 ≡ Unreadable
+none_plain : (w : List ℕ) → run_length 10 w ≡ 0 → plain_unit (byte "D") w 0 ≡ Err Unreadable
 unfolding plain_unit
 none_plain w z =
     let e : (digits_at 10 w 0 0).end ≡ 0 + run_length 10 w = run_end 10 w 0 0 in
     rw (le-leb (digits_at 10 w 0 0).end 0 (omega arith))
 
-pub decimal_none : (b : ℕ) (w : List ℕ) {t : Bool} → b ≡ byte "D" → t ≡ is_digit (get_or w 0 0) → t ≡ false → Unreadable ≡ of_numeral b 0 (numeral (base_at b) w)
+pub decimal_none : (b : ℕ) (w : List ℕ) {t : Bool} → b ≡ byte "D" → t ≡ is_digit (get_or w 0 0) → t ≡ false → (Err Unreadable) ≡ of_numeral b 0 (numeral (base_at b) w)
 decimal_none b w d e y = rw (d, ← decimal_is w) (sym (none_plain w (start_none w (sym e ∙ y))))

@@ -13,9 +13,10 @@ use Rattle.rules.specs.Refusals.{most_value, most_fraction}
 use Rattle.rules.specs.Characters.{byte, capital}
 use Rattle.rules.specs.Units.{Radix, r_d, r_h, r_o, r_b, Base, plain, keys, size, letter, radix_letter, numeral, is_identifier, is_symbolic_name, run_of, is_key, is_digit_of, dotted, fraction, at_stop, value_from, radix_at, base_at}
 use Rattle.digits.proofs.LetterLaws.{is_plain}
-use Rattle.units.specs.declared.Word.{Word as Answer}
-use Rattle.units.specs.declared.Word.TheVariants.{Numeral, Keyed, Identifier, Symbolic, Unreadable, TooBig}
-use Rattle.units.specs.Words.{sized, of_numeral, name_unit, or_name, may_stand, prefix_unit, unit_under}
+use Rattle.std.proofs.Common.{Ok, Err}
+use Rattle.units.specs.declared.Word.TheVariants.{Numeral, Keyed, Identifier, Symbolic}
+use Rattle.units.specs.declared.Fault.TheVariants.{Unreadable, TooBig}
+use Rattle.units.specs.Words.{Answer, sized, of_numeral, name_unit, or_name, may_stand, prefix_unit, unit_under}
 
 -- the letter is its base's own, and the limits hold
 pub record IsNumeral (l f v : ℕ) : Type 0 where
@@ -25,12 +26,12 @@ pub record IsNumeral (l f v : ℕ) : Type 0 where
 
 -- what every answer for the word w keeps
 abbrev pub Fits : List ℕ → Answer → Type 0
-Fits w (Numeral l f v) = IsNumeral l f v
-Fits w (Keyed k) = k < length w
-Fits w Identifier = Always
-Fits w Symbolic = Always
-Fits w Unreadable = Always
-Fits w TooBig = Always
+Fits w (Ok (Numeral l f v)) = IsNumeral l f v
+Fits w (Ok (Keyed k)) = k < length w
+Fits w (Ok Identifier) = Always
+Fits w (Ok Symbolic) = Always
+Fits w (Err Unreadable) = Always
+Fits w (Err TooBig) = Always
 
 sized_fits : (w : List ℕ) (l f v : ℕ) → radix_letter (radix_at l) ≡ l → Fits w (sized l f v)
 unfolding sized
@@ -93,12 +94,12 @@ name_fits w = by_bool (is_identifier w) (λ y. rw y tt) (λ y. by_bool (is_symbo
 
 or_fits : (w : List ℕ) (a : Answer) → Fits w a → Fits w (or_name w a)
 unfolding or_name
-or_fits w (Numeral l f v) h = h
-or_fits w (Keyed k) h = h
-or_fits w Identifier h = tt
-or_fits w Symbolic h = tt
-or_fits w Unreadable h = name_fits w
-or_fits w TooBig h = tt
+or_fits w (Ok (Numeral l f v)) h = h
+or_fits w (Ok (Keyed k)) h = h
+or_fits w (Ok Identifier) h = tt
+or_fits w (Ok Symbolic) h = tt
+or_fits w (Err Unreadable) h = name_fits w
+or_fits w (Err TooBig) h = tt
 
 pub unit_fits : (b : Base) (w : List ℕ) → Fits w (unit_under (letter b) w)
 unfolding unit_under prefix_unit

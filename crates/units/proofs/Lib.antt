@@ -3,3 +3,4 @@ pub mod WordLaws
 pub mod FitLaws
 pub mod OtherLaws
 pub mod DecimalLaws
+pub mod AllLaws

@@ -18,7 +18,8 @@ use Rattle.rules.specs.Units.{Radix, r_d, r_h, r_o, r_b, plain, size, num, digit
 use Rattle.rules.proofs.UnitBack.{size_least, value_append}
 use Rattle.digits.specs.Digits.{digits_at}
 use Rattle.digits.proofs.RunLaws.{run_length, run_yes, run_no, run_none, run_end, run_le, Near, near_run, broken_run, run_all, run_not, run_empty, run_take}
-use Rattle.units.specs.declared.Word.TheVariants.{Unreadable}
+use Rattle.std.proofs.Common.{Err}
+use Rattle.units.specs.declared.Fault.TheVariants.{Unreadable}
 use Rattle.units.specs.Words.{sized, fraction_unit, plain_for, plain_unit, of_numeral}
 
 -- ---- digits to the end
@@ -129,7 +130,7 @@ module _ (l k : ℕ) (w : List ℕ) (at v : ℕ) (xs : List ℕ) (h : at < lengt
           let read : Near (digits_at 10 w (at + 1) v).value (value_from 10 (value_from 10 0 xs) (take (run_length 10 y) y)) = rw e at (near_run 10 w (at + 1) v (value_from 10 0 xs) (omega arith) n) in
           rw (value_append 10 0 xs y) (rw (take_all (run_length 10 y) y (omega arith)) at read)
 
-fraction_none : (l : ℕ) (w : List ℕ) (at v : ℕ) → (get_or w at 0 ≡ byte "." → ⊥) → fraction_unit l w at v ≡ Unreadable
+fraction_none : (l : ℕ) (w : List ℕ) (at v : ℕ) → (get_or w at 0 ≡ byte "." → ⊥) → fraction_unit l w at v ≡ Err Unreadable
 unfolding fraction_unit
 fraction_none l w at v s = rw (ne_eqb (get_or w at 0) (byte ".") s)
 
@@ -138,7 +139,7 @@ fraction_none l w at v s = rw (ne_eqb (get_or w at 0) (byte ".") s)
 -- with a fraction
 frac_for : (r : Radix) (l : ℕ) (w : List ℕ) (i v : ℕ) → run_length (size r) (drop i w) < length (drop i w) → 1 ≤ run_length (size r) (drop i w)
     → Near v (value_from (size r) 0 (take (run_length (size r) (drop i w)) (drop i w)))
-    → pick (eqb (size r) 10) (fraction_unit l w (i + run_length (size r) (drop i w)) v) Unreadable ≡ of_numeral l i (fraction r (drop i w))
+    → pick (eqb (size r) 10) (fraction_unit l w (i + run_length (size r) (drop i w)) v) (Err Unreadable) ≡ of_numeral l i (fraction r (drop i w))
 unfolding of_numeral
 frac_for r_h l w i v h k n = refl
 frac_for r_o l w i v h k n = refl

@@ -4,12 +4,12 @@ use mathlib.Core.Path.{◌≡◌, refl, sym, ap, ◌∙◌, subst}
 use mathlib.Core.List.{List, [], ◌∷◌, map}
 use mathlib.Core.Bool.{Bool, true, false, not, ◌&&◌, ◌||◌, false≢true}
 use mathlib.Core.Option.{Option, none, some}
-use Prim.Native.Nat.{ℕ, ◌<◌, ◌≤◌}
+use Prim.Native.Nat.{ℕ, ◌-◌, ◌<◌, ◌≤◌}
 use native.Mathlib.Omega.{arith}
-use lib.ListN.{length, get_or, drop, drop_of_length-le}
+use lib.ListN.{length, get_or, take, drop, drop_of_length-le}
 use lib.Dec.{leb, eqb}
 use borrow.Author.Tests.{eq-eqb, eqb-true}
-use Rattle.laws.specs.Cases.{Always, by_bool, pick, and_false, or_true}
+use Rattle.laws.specs.Cases.{Always, by_bool, pick, or_true}
 use Rattle.laws.specs.Lists.{all, any, is_nil, all_at, next}
 use Rattle.rules.specs.Refusals.{ok, bad, unreadable, most_value, most_fraction}
 use Rattle.rules.specs.Characters.{byte, capital, is_letter, is_digit, is_alnum, is_symbol_char}
@@ -18,68 +18,48 @@ use Rattle.rules.proofs.UnitBack.{no_mark, ident_alnum}
 use Rattle.digits.specs.Digits.{plain_letter}
 use Rattle.digits.proofs.LetterLaws.{base_at_lem, is_plain, no_base}
 use Rattle.digits.proofs.RunLaws.{broken_run}
-use Rattle.units.specs.declared.Word.TheVariants.{Keyed, Unreadable}
+use Rattle.std.proofs.Common.{Ok, Err}
+use Rattle.units.specs.declared.Word.TheVariants.{Keyed}
+use Rattle.units.specs.declared.Fault.TheVariants.{Unreadable}
+use Rattle.std.specs.List.{list_all}
+use Rattle.units.proofs.AllLaws.{same_all, same_behind}
 use Rattle.units.proofs.NumeralLaws.{dotted_second}
 use Rattle.units.specs.Words.{sized, of_numeral, name_unit, or_name, may_stand, prefix_unit, unit_under, read_as}
 
 -- ---- the ways out of `numeral_unit` under K
 
 module _ (l : ℕ) (w : List ℕ) (i : ℕ) (k : l ≡ byte "K") where
-  pub keys_yes : {t : Bool} → i < length w → t ≡ all_at is_key w i → t ≡ true → Keyed i ≡ of_numeral l i (numeral (base_at l) (drop i w))
-  unfolding of_numeral all_at
+  pub keys_yes : {t : Bool} → i < length w → t ≡ list_all is_key (take (length w - i) (drop i w)) → t ≡ true → Ok (Keyed i) ≡ of_numeral l i (numeral (base_at l) (drop i w))
+  unfolding of_numeral
   keys_yes h e y =
-      let z : all is_key (drop i w) ≡ true = sym e ∙ y in
+      let z : all is_key (drop i w) ≡ true = sym (same_behind is_key i w) ∙ sym e ∙ y in
       let n : is_nil (drop i w) ≡ false = rw (next w i h) in
       rw (eq-eqb l (byte "K") k, z, n)
 
-  pub keys_no : {t : Bool} → t ≡ all_at is_key w i → t ≡ false → Unreadable ≡ of_numeral l i (numeral (base_at l) (drop i w))
-  unfolding of_numeral all_at
-  keys_no e y = rw (eq-eqb l (byte "K") k, broken_run is_key (drop i w) (sym e ∙ y))
+  pub keys_no : {t : Bool} → t ≡ list_all is_key (take (length w - i) (drop i w)) → t ≡ false → Err Unreadable ≡ of_numeral l i (numeral (base_at l) (drop i w))
+  unfolding of_numeral
+  keys_no e y = rw (eq-eqb l (byte "K") k, broken_run is_key (drop i w) (sym (same_behind is_key i w) ∙ sym e ∙ y))
 
-  pub keys_none : length w ≤ i → Unreadable ≡ of_numeral l i (numeral (base_at l) (drop i w))
+  pub keys_none : length w ≤ i → Err Unreadable ≡ of_numeral l i (numeral (base_at l) (drop i w))
   unfolding of_numeral
   keys_none h = rw (eq-eqb l (byte "K") k, drop_of_length-le w h)
 
 -- ---- the ways out of `is_identifier` and `is_symbolic`
 
-pub ident_none : (w : List ℕ) → length w ≡ 0 → false ≡ is_identifier w
-ident_none [] h = refl
-ident_none (c ∷ cs) h = absurd (omega arith)
-
-pub ident_some : (w : List ℕ) {t r : Bool} → (length w ≡ 0 → ⊥) → t ≡ is_letter (get_or w 0 0) → t ≡ true → r ≡ all_at is_alnum w 1 → r ≡ is_identifier w
-unfolding all_at
-ident_some [] h e y q = absurd (h refl)
-ident_some (c ∷ cs) h e y q = q ∙ rw (sym e ∙ y)
-
-pub ident_not : (w : List ℕ) {t : Bool} → (length w ≡ 0 → ⊥) → t ≡ is_letter (get_or w 0 0) → t ≡ false → false ≡ is_identifier w
-ident_not [] h e y = refl
-ident_not (c ∷ cs) h e y = rw (sym e ∙ y)
+pub ident_some : (w : List ℕ) {c : ℕ} {cs : List ℕ} {t r : Bool} → w ≡ c ∷ cs → t ≡ is_letter c → t ≡ true → r ≡ list_all is_alnum cs → r ≡ is_identifier w
+ident_some w {c} {cs} q e y a = rw q (a ∙ same_all is_alnum cs ∙ rw (sym e ∙ y))
 
 any_not : (w : List ℕ) → any (λ c. not (is_digit c)) w ≡ not (all is_digit w)
 any_not [] = refl
 any_not (c ∷ cs) = by_bool (is_digit c) (λ y. rw y (any_not cs)) (λ y. rw y)
 
-pub symbol_digits : (w : List ℕ) {t : Bool} → t ≡ all_at is_digit w 0 → t ≡ true → false ≡ is_symbolic_name w
+pub symbol_yes : (w : List ℕ) {s t : Bool} → s ≡ list_all is_symbol_char w → s ≡ true → t ≡ all_at is_digit w 0 → not t ≡ is_symbolic_name w
 unfolding all_at
-symbol_digits w e y = let z : all is_digit w ≡ true = sym e ∙ y in rw (any_not w, z) (sym (and_false (all is_symbol_char w)))
+symbol_yes w d x e =
+    let q : all is_symbol_char w ≡ true = sym (same_all is_symbol_char w) ∙ sym d ∙ x in
+    rw (any_not w, q, e)
 
-pub symbol_yes : (w : List ℕ) {t s : Bool} → s ≡ all_at is_symbol_char w 0 → s ≡ true → t ≡ all_at is_digit w 0 → t ≡ false → true ≡ is_symbolic_name w
-unfolding all_at
-symbol_yes w d x e y =
-    let z : all is_digit w ≡ false = sym e ∙ y in
-    let q : all is_symbol_char w ≡ true = sym d ∙ x in
-    rw (any_not w, z, q)
-
-pub symbol_no : (w : List ℕ) {s : Bool} → s ≡ all_at is_symbol_char w 0 → s ≡ false → false ≡ is_symbolic_name w
-unfolding all_at
-symbol_no w d x = let q : all is_symbol_char w ≡ false = sym d ∙ x in rw q
-
--- ---- a word of one character has no prefix
-
-pub short : (w : List ℕ) → length w < 2 → eqb (get_or w 1 0) (byte "'") ≡ false
-short [] h = refl
-short (c ∷ []) h = refl
-short (c ∷ d ∷ cs) h = absurd (omega arith)
+-- ---- a word with a prefix has two characters
 
 pub long : (w : List ℕ) → eqb (get_or w 1 0) (byte "'") ≡ true → 2 ≤ length w
 long [] h = absurd (false≢true h)

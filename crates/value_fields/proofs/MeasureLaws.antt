@@ -13,21 +13,20 @@ use Rattle.rules.specs.Commands.{Element}
 use Rattle.rules.specs.Records.{bytes_of, element_fields}
 use Rattle.rules.specs.Tokens.{sep_code, amp_}
 use Rattle.read_joins.specs.Joins.{joins_in, count, sep_kind}
-use Rattle.read_joins.specs.Answers.{ArgEnd}
+use Rattle.read_joins.specs.Answers.{next_of, ArgEnd}
 use Rattle.read_joins.specs.declared.Shape.{Shape}
-use Rattle.read_joins.specs.declared.Shape.TheVariants.{Single, Range, Refused}
 use Rattle.read_elements.specs.Shapes.{Later}
-use Rattle.read_elements.specs.Walk.{step_of}
-use Rattle.read_elements.specs.declared.Step.{Step}
+use Rattle.std.proofs.Common.{Result, Ok}
+use Rattle.rules.specs.declared.Refusal.{Refusal}
+use Rattle.token_table.specs.declared.Token.{Token as Entry}
 use Rattle.read_elements.proofs.EachLaws.{Between}
 use Rattle.read_value.specs.Passes.{Faultless}
 use Rattle.value_fields.specs.Measure.{bytes_at, bytes_from, head_bytes, element_bytes, ValueLen}
-use Rattle.value_fields.proofs.BytesLaws.{unit_small, units_small}
 use Rattle.value_fields.proofs.TurnLaws.{value_bytes, value_snoc, one_bytes, met_none, met_all, met}
 
 -- ---- units
 
-module _ (l : ℕ) (cs ts : List ℕ) (n : ℕ) where
+module _ (l : ℕ) (cs : List ℕ) (ts : List Entry) (n : ℕ) where
   pub units_none : 0 ≡ length (bytes_from l cs ts n 0)
   unfolding bytes_from
   units_none = refl
@@ -37,56 +36,35 @@ module _ (l : ℕ) (cs ts : List ℕ) (n : ℕ) where
     unfolding bytes_from
     units_more g = rw (add-one i, length-append, ← e, ← g)
 
-    pub units_fit : (m : ℕ) {x : ℕ} → x ≡ length (bytes_at l cs ts (n + i)) → i < m → m ≤ 3 → Fits w64 (total + x)
-    units_fit m g h k = omega (arith, units_small i l cs ts n, unit_small l cs ts (n + i))
-
     pub units_all : (m : ℕ) → i ≤ m → m ≤ i → total ≡ length (bytes_from l cs ts n m)
     units_all m h g = let z : m ≡ i = omega arith in rw (z, e)
 
 -- ---- an element
 
-head_small : (x : Shape) → length (head_bytes x) ≤ 11
-head_small (Single n) = omega arith
-head_small (Range u i m n) = omega arith
-head_small (Refused k p) = omega arith
-
--- its own field and its leading units
-pub front_fits : (l : ℕ) (cs ts : List ℕ) (x : Shape) (f k : ℕ) {p q : ℕ} → p ≡ length (head_bytes x) → q ≡ length (bytes_from l cs ts f k) → k ≤ 3 → Fits w64 (p + q)
-front_fits l cs ts x f k e g h = omega (arith, head_small x, units_small k l cs ts f)
-
-module _ (l : ℕ) (cs ts : List ℕ) (x : Shape) (f k m : ℕ) where
+module _ (l : ℕ) (cs : List ℕ) (ts : List Entry) (x : Shape) (f k m : ℕ) where
   pub element_len : length (element_bytes l cs ts x f k m) ≡ length (head_bytes x) + length (bytes_from l cs ts f k) + length (bytes_at l cs ts m)
   unfolding element_bytes
   element_len = rw (length-append, length-append)
-
-  element_small : k ≤ 3 → length (element_bytes l cs ts x f k m) ≤ 300000
-  element_small h = omega (arith, element_len, head_small x, units_small k l cs ts f, unit_small l cs ts m)
 
   -- the three lengths together
   module _ {p q r : ℕ} (ep : p ≡ length (head_bytes x)) (eq : q ≡ length (bytes_from l cs ts f k)) (er : r ≡ length (bytes_at l cs ts m)) where
     pub sum_len : p + q + r ≡ length (element_bytes l cs ts x f k m)
     sum_len = omega (arith, element_len)
 
-    pub sum_fits : k ≤ 3 → Fits w64 (p + q + r)
-    sum_fits h = omega (arith, sum_len, element_small h)
-
 -- ---- the elements
 
 -- a value of one unit
-module _ (l : ℕ) (cs ts : List ℕ) {r : ℕ} (q : r ≡ length (bytes_at l cs ts 0)) where
-  pub one_fits : Fits w64 (3 + r)
-  one_fits = omega (arith, unit_small l cs ts 0)
-
+module _ (l : ℕ) (cs : List ℕ) (ts : List Entry) {r : ℕ} (q : r ≡ length (bytes_at l cs ts 0)) where
   pub one_len : length ts ≡ 1 → ValueLen ts cs l (3 + r)
   one_len h b e es own g = rw (one_bytes l cs ts h b e es own g, q) (omega arith)
 
-pub record Measuring (l : ℕ) (cs ts : List ℕ) (k n f total : ℕ) : Type 0 where
+pub record Measuring (l : ℕ) (cs : List ℕ) (ts : List Entry) (k n f total : ℕ) : Type 0 where
   pub done : List Element
   pub between : Between (joins_in l cs ts) k done n f
   pub is : total ≡ length (value_bytes done)
   pub small : total ≤ length done * 300000
 
-module _ (l : ℕ) (cs ts : List ℕ) (v : Faultless ts cs l) where
+module _ (l : ℕ) (cs : List ℕ) (ts : List Entry) (v : Faultless ts cs l) where
   pub measuring_none : {q : ℕ} → ArgEnd ts 1 q → Measuring l cs ts (q - 1) 0 0 0
   measuring_none a = record { done = []; between = met_none l cs ts v a; is = refl; small = omega arith }
 
@@ -94,22 +72,22 @@ module _ (l : ℕ) (cs ts : List ℕ) (v : Faultless ts cs l) where
     pub measuring_end : m ≤ n → ValueLen ts cs l total
     measuring_end h b p es own g = w.is ∙ ap (λ x. length (value_bytes x)) (met_all l cs ts w.between c h b p es own g)
 
-    module _ {x : Shape} {s : Step} {kd f' la z : ℕ} (h : n < m) (y : Later (joins_in l cs ts) k n x) (q : s ≡ step_of x) (ek : kd ≡ sep_kind ts n)
-        (ef : f' ≡ cond (eqb kd (sep_code amp_)) f n) (ea : la ≡ cond (eqb kd (sep_code amp_)) n (n + k)) (ez : z ≡ length (element_bytes l cs ts x f' k la)) where
+    module _ {r : Result Shape Refusal} {x : Shape} {kd f' la z : ℕ} (h : n < m) (y : Later (joins_in l cs ts) k n r) (u : r ≡ Ok x) (ek : kd ≡ sep_kind ts n)
+        (ef : f' ≡ cond (eqb kd (sep_code amp_)) f n) (ea : la ≡ cond (eqb kd (sep_code amp_)) n (n + k)) (ez : z ≡ length (element_bytes l cs ts x f' k la)) (sz : z ≤ 300000) where
       pub measuring_fits : Fits w64 (total + z)
       measuring_fits =
-          let t = met l cs ts w.between c v h y q ek ef ea in
-          omega (arith, w.small, t.few, element_small l cs ts x f' k la w.between.short)
+          let t = met l cs ts w.between c v h y u ek ef ea in
+          omega (arith, w.small, t.few)
 
-      pub measuring_more : Measuring l cs ts k s.next f' (total + z)
-      measuring_more =
-          let t = met l cs ts w.between c v h y q ek ef ea in
+      pub measuring_more : {nx : ℕ} → nx ≡ next_of x → Measuring l cs ts k nx f' (total + z)
+      measuring_more q =
+          let t = met l cs ts w.between c v h y u ek ef ea in
           let d = w.done in
           let o = length-append (value_bytes d) (bytes_of (element_fields t.el)) in
           let r : length (value_bytes (d ++ (t.el ∷ []))) ≡ total + z = rw (value_snoc d t.el, ez, t.bytes) (omega (arith, w.is)) in
           record {
             done = d ++ (t.el ∷ []);
-            between = t.then;
+            between = rw q t.then;
             is = sym r;
-            small = omega (arith, w.small, element_small l cs ts x f' k la w.between.short, length-append d (t.el ∷ []));
+            small = omega (arith, w.small, length-append d (t.el ∷ []));
           }

@@ -6,7 +6,7 @@ use mathlib.Core.List.{List, [], ◌∷◌, ◌++◌, append-nil}
 use native.Mathlib.Omega.{arith}
 use lib.Dec.{eqb}
 use lib.ListN.{length}
-use Rattle.rules.specs.Commands.{Element, single}
+use Rattle.rules.specs.Commands.{Element, single, range}
 use Rattle.rules.specs.Groups.{read_value}
 use Rattle.rules.specs.Records.{field, field_bytes, bytes_of, element_fields, many}
 use Rattle.rules.specs.Refusals.{ok}
@@ -16,14 +16,16 @@ use Rattle.rules.proofs.FieldLaws.{bytes_append, many_append}
 use Rattle.rules.proofs.ResultLaws.{ok_inj}
 use Rattle.token_table.specs.Table.{tokens_in}
 use Rattle.read_joins.specs.Joins.{joins_in, kind_at, unit_at, next_at, count, sep_kind}
-use Rattle.read_joins.specs.Answers.{ArgEnd}
+use Rattle.read_joins.specs.Answers.{element_answer, next_of, ArgEnd}
 use Rattle.read_elements.specs.Shapes.{Later}
 use Rattle.read_joins.specs.declared.Shape.{Shape}
 use Rattle.read_joins.specs.declared.Shape.TheVariants.{Single}
 use Rattle.read_joins.proofs.JoinLaws.{joins_length, kind_is}
-use Rattle.read_elements.specs.Walk.{step_of}
-use Rattle.read_elements.specs.declared.Step.{Step}
-use Rattle.read_elements.proofs.WalkLaws.{one_element, next_of, next_from}
+use Rattle.std.proofs.Common.{Result, Ok}
+use Rattle.std.specs.Prelude.{IsOk}
+use Rattle.rules.specs.declared.Refusal.{Refusal}
+use Rattle.token_table.specs.declared.Token.{Token as Entry}
+use Rattle.read_elements.proofs.WalkLaws.{one_element, answer_next, next_from}
 use Rattle.read_elements.proofs.StandLaws.{front_at, last_at}
 use Rattle.read_elements.proofs.EachLaws.{Between, between_none, between_end, turn, turn_answer}
 use Rattle.read_value.specs.Passes.{Faultless}
@@ -44,8 +46,12 @@ value_snoc xs e = value_append xs (e ∷ []) ∙ ap (λ x. value_bytes xs ++ byt
 
 -- ---- the turns
 
+answer_ok : (n : ℕ) (e : Element) {r : Result Shape Refusal} → r ≡ element_answer n (ok e) → IsOk r
+answer_ok n (single l u) q = rw q
+answer_ok n (range l r lo up inc) q = rw q
+
 -- the element met at n: the code's answer x for it, where the next one begins, where its leading units and its last unit stand
-pub record Met (l : ℕ) (cs ts : List ℕ) (k : ℕ) (done : List Element) (n : ℕ) (x : Shape) (nx f la : ℕ) : Type 0 where
+pub record Met (l : ℕ) (cs : List ℕ) (ts : List Entry) (k : ℕ) (done : List Element) (n : ℕ) (x : Shape) (nx f la : ℕ) : Type 0 where
   pub el : Element
   pub bytes : element_bytes l cs ts x f k la ≡ bytes_of (element_fields el)
   pub then : Between (joins_in l cs ts) k (done ++ (el ∷ [])) nx f
@@ -54,7 +60,7 @@ pub record Met (l : ℕ) (cs ts : List ℕ) (k : ℕ) (done : List Element) (n :
   pub front : f + k ≤ count ts
   pub last : la < count ts
 
-module _ (l : ℕ) (cs ts : List ℕ) where
+module _ (l : ℕ) (cs : List ℕ) (ts : List Entry) where
   -- the only element of a value of one unit
   pub one_bytes : length ts ≡ 1 → (b : Base) (e : ℕ) (es : List Element) → l ≡ letter b → read_value b (tokens_in cs ts) e ≡ ok es
       → value_bytes es ≡ field_bytes (field 5 []) ++ bytes_at l cs ts 0
@@ -81,18 +87,24 @@ module _ (l : ℕ) (cs ts : List ℕ) where
     pub last_small : n < m → length ts * 8 < 2 ^ 63 → n + k < 18446744073709551616
     last_small h g = omega (arith, w.short)
 
-    module _ {x : Shape} {s : Step} {kd f' la : ℕ} (v : Faultless ts cs l) (h : n < m) (y : Later (joins_in l cs ts) k n x) (q : s ≡ step_of x) (ek : kd ≡ sep_kind ts n)
+    -- the element is one
+    pub met_fine : (v : Faultless ts cs l) → n < m → {r : Result Shape Refusal} → Later (joins_in l cs ts) k n r → IsOk r
+    met_fine v h y =
+        let t = turn (joins_in l cs ts) w (omega (arith, joins_length l cs ts)) in
+        answer_ok (next_at (joins_in l cs ts) (n + 1)) t.el (turn_answer (joins_in l cs ts) t y)
+
+    module _ {r : Result Shape Refusal} {x : Shape} {kd f' la : ℕ} (v : Faultless ts cs l) (h : n < m) (y : Later (joins_in l cs ts) k n r) (u : r ≡ Ok x) (ek : kd ≡ sep_kind ts n)
         (ef : f' ≡ cond (eqb kd (sep_code amp_)) f n) (ea : la ≡ cond (eqb kd (sep_code amp_)) n (n + k)) where
-      pub met : Met l cs ts k done n x s.next f' la
+      pub met : Met l cs ts k done n x (next_of x) f' la
       met =
           let js = joins_in l cs ts in
           let t = turn js w (omega (arith, joins_length l cs ts)) in
           let st = t.stands in
-          let a = turn_answer js t y in
+          let a : Ok x ≡ element_answer (next_at js (n + 1)) (ok t.el) = sym u ∙ turn_answer js t y in
           let kn : kind_at js n ≡ kd = kind_is l cs ts n ∙ sym ek in
           let zf : front_at js f n ≡ f' = rw (kn, ef) in
           let zl : last_at js k n ≡ la = rw (kn, ea) in
-          let zn : next_at js (n + 1) ≡ s.next = sym (ap (λ r. r.next) (q ∙ ap step_of a) ∙ next_of (next_at js (n + 1)) t.el) in
+          let zn : next_at js (n + 1) ≡ next_of x = sym (answer_next (next_at js (n + 1)) t.el a) in
           let hf : f' + k ≤ count ts = omega (arith, st.front_inside, joins_length l cs ts) in
           let hl : la < count ts = omega (arith, st.last_inside, joins_length l cs ts) in
           record {
@@ -112,5 +124,5 @@ module _ (l : ℕ) (cs ts : List ℕ) where
       pub met_last : la < count ts
       met_last = met.last
 
-      pub met_less : count ts - s.next < count ts - n
-      met_less = omega (arith, met.on)
+      pub met_less : {nx : ℕ} → nx ≡ next_of x → count ts - nx < count ts - n
+      met_less q = omega (arith, met.on, q)

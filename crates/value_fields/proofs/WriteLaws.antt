@@ -15,11 +15,12 @@ use Rattle.rules.specs.Records.{field, field_bytes, bytes_of, element_fields}
 use Rattle.rules.specs.Tokens.{sep_code, amp_}
 use Rattle.rules.proofs.ResultLaws.{ok_inj}
 use Rattle.read_joins.specs.Joins.{joins_in, count, sep_kind}
-use Rattle.read_joins.specs.Answers.{ArgEnd}
+use Rattle.read_joins.specs.Answers.{next_of, ArgEnd}
 use Rattle.read_joins.specs.declared.Shape.{Shape}
 use Rattle.read_elements.specs.Shapes.{Later}
-use Rattle.read_elements.specs.Walk.{step_of}
-use Rattle.read_elements.specs.declared.Step.{Step}
+use Rattle.std.proofs.Common.{Result, Ok}
+use Rattle.rules.specs.declared.Refusal.{Refusal}
+use Rattle.token_table.specs.declared.Token.{Token as Entry}
 use Rattle.read_elements.proofs.EachLaws.{Between}
 use Rattle.read_value.proofs.FaultlessLaws.{sound}
 use Rattle.value_fields.specs.Measure.{bytes_at, bytes_from, head_bytes, element_bytes}
@@ -41,25 +42,25 @@ module _ (a b old : List ℕ) {xs : List ℕ} {p : ℕ} (e : p ≡ length a) (q 
 
 -- ---- units
 
-pub record Putting (l : ℕ) (cs ts old : List ℕ) (n d i k : ℕ) (o : List ℕ) : Type 0 where
+pub record Putting (l : ℕ) (cs : List ℕ) (ts : List Entry) (old : List ℕ) (n d i k : ℕ) (o : List ℕ) : Type 0 where
   pub is : o ≡ over (bytes_from l cs ts n i) old
   pub size : length (bytes_from l cs ts n i) ≡ k
   pub long : length o ≡ length old
   pub left : i ≤ d
 
-pub putting_none : (l : ℕ) (cs ts old : List ℕ) (n d : ℕ) → Putting l cs ts old n d 0 0 old
+pub putting_none : (l : ℕ) (cs : List ℕ) (ts : List Entry) (old : List ℕ) (n d : ℕ) → Putting l cs ts old n d 0 0 old
 unfolding bytes_from
 putting_none l cs ts old n d = record { is = refl; size = refl; long = refl; left = omega arith }
 
 -- fewer units take no more bytes
-fewer : (j i l : ℕ) (cs ts : List ℕ) (n : ℕ) → length (bytes_from l cs ts n i) ≤ length (bytes_from l cs ts n (i + j))
+fewer : (j i l : ℕ) (cs : List ℕ) (ts : List Entry) (n : ℕ) → length (bytes_from l cs ts n i) ≤ length (bytes_from l cs ts n (i + j))
 unfolding bytes_from
 fewer zero i l cs ts n = let z : i + 0 ≡ i = omega arith in rw z (omega arith)
 fewer (suc j) i l cs ts n =
     let z : i + suc j ≡ suc (i + j) = omega arith in
     rw (z, length-append) (omega (arith, fewer j i l cs ts n))
 
-module _ {l : ℕ} {cs ts old : List ℕ} {n d i k : ℕ} {o : List ℕ} (w : Putting l cs ts old n d i k o) where
+module _ {l : ℕ} {cs : List ℕ} {ts : List Entry} {old : List ℕ} {n d i k : ℕ} {o : List ℕ} (w : Putting l cs ts old n d i k o) where
   module _ (room : length (bytes_from l cs ts n d) ≤ length old) (h : i < d) where
     next_room : k + length (bytes_at l cs ts (n + i)) ≤ length o
     unfolding bytes_from
@@ -101,7 +102,7 @@ module _ {l : ℕ} {cs ts old : List ℕ} {n d i k : ℕ} {o : List ℕ} (w : Pu
 
 -- ---- an element: its own field, its leading units, its last unit
 
-module _ (l : ℕ) (cs ts : List ℕ) (x : Shape) (f k m : ℕ) (old : List ℕ) (h : length (element_bytes l cs ts x f k m) ≤ length old) where
+module _ (l : ℕ) (cs : List ℕ) (ts : List Entry) (x : Shape) (f k m : ℕ) (old : List ℕ) (h : length (element_bytes l cs ts x f k m) ≤ length old) where
   pub head_room : length (head_bytes x) ≤ length old
   head_room = omega (arith, element_len l cs ts x f k m)
 
@@ -144,7 +145,7 @@ module _ (l : ℕ) (cs ts : List ℕ) (x : Shape) (f k m : ℕ) (old : List ℕ)
 
 -- ---- a value of one unit: the field of a single element, then the unit's
 
-module _ (l : ℕ) (cs ts old : List ℕ) (h : length ts ≡ 1) (v : Fits ts cs l (length old)) where
+module _ (l : ℕ) (cs : List ℕ) (ts : List Entry) (old : List ℕ) (h : length ts ≡ 1) (v : Fits ts cs l (length old)) where
   pub one_room : 3 + length (bytes_at l cs ts 0) ≤ length old
   one_room = let s = v.value in omega (arith, v.room, ap length (one_bytes l cs ts h s.base s.end s.es s.own s.is))
 
@@ -167,14 +168,14 @@ module _ (l : ℕ) (cs ts old : List ℕ) (h : length ts ≡ 1) (v : Fits ts cs 
 
 -- ---- the elements
 
-pub record Writing (l : ℕ) (cs ts old : List ℕ) (k n f at : ℕ) (o : List ℕ) : Type 0 where
+pub record Writing (l : ℕ) (cs : List ℕ) (ts : List Entry) (old : List ℕ) (k n f at : ℕ) (o : List ℕ) : Type 0 where
   pub done : List Element
   pub between : Between (joins_in l cs ts) k done n f
   pub is : o ≡ over (value_bytes done) old
   pub size : length (value_bytes done) ≡ at
   pub long : length o ≡ length old
 
-module _ (l : ℕ) (cs ts old : List ℕ) (v : Fits ts cs l (length old)) where
+module _ (l : ℕ) (cs : List ℕ) (ts : List Entry) (old : List ℕ) (v : Fits ts cs l (length old)) where
   pub writing_none : {q : ℕ} → ArgEnd ts 1 q → Writing l cs ts old (q - 1) 0 0 0 old
   writing_none a = record { done = []; between = met_none l cs ts v.value a; is = refl; size = refl; long = refl }
 
@@ -184,10 +185,10 @@ module _ (l : ℕ) (cs ts old : List ℕ) (v : Fits ts cs l (length old)) where
         let z : w.done ≡ es = met_all l cs ts w.between c h b p es own g in
         rw (← z) (sym w.size, w.is)
 
-    module _ {x : Shape} {s : Step} {kd f' la : ℕ} (h : n < m) (y : Later (joins_in l cs ts) k n x) (q : s ≡ step_of x) (ek : kd ≡ sep_kind ts n)
+    module _ {r : Result Shape Refusal} {x : Shape} {kd f' la : ℕ} (h : n < m) (y : Later (joins_in l cs ts) k n r) (u : r ≡ Ok x) (ek : kd ≡ sep_kind ts n)
         (ef : f' ≡ cond (eqb kd (sep_code amp_)) f n) (ea : la ≡ cond (eqb kd (sep_code amp_)) n (n + k)) where
-      here : Met l cs ts k w.done n x s.next f' la
-      here = met l cs ts w.between c v.value h y q ek ef ea
+      here : Met l cs ts k w.done n x (next_of x) f' la
+      here = met l cs ts w.between c v.value h y u ek ef ea
 
       -- there is room for the element
       next_fits : at + length (element_bytes l cs ts x f' k la) ≤ length o
@@ -210,15 +211,15 @@ module _ (l : ℕ) (cs ts old : List ℕ) (v : Fits ts cs l (length old)) where
         pub writing_fits : length old < 2 ^ 64 → Holds w64 (at + z)
         writing_fits g = omega (arith, next_fits, w.long)
 
-        pub writing_more : {ys : List ℕ} → ys ≡ over (element_bytes l cs ts x f' k la) (part o at) → Writing l cs ts old k s.next f' (at + z) (back o at ys)
-        writing_more {ys} ey =
+        pub writing_more : {nx : ℕ} {ys : List ℕ} → nx ≡ next_of x → ys ≡ over (element_bytes l cs ts x f' k la) (part o at) → Writing l cs ts old k nx f' (at + z) (back o at ys)
+        writing_more {nx} {ys} g ey =
             let d = w.done in let e = element_bytes l cs ts x f' k la in
             let q : value_bytes (d ++ (here.el ∷ [])) ≡ value_bytes d ++ e = rw here.bytes (value_snoc d here.el) in
             let p : back o at ys ≡ over (value_bytes d ++ e) old = back_over (value_bytes d) e old w.is w.size ey in
             let r : length (value_bytes d ++ e) ≡ at + z = length-append (value_bytes d) e ∙ omega (arith, w.size) in
             record {
               done = d ++ (here.el ∷ []);
-              between = here.then;
+              between = rw g here.then;
               is = rw q p;
               size = rw q r;
               long = ap length p ∙ length_over (value_bytes d ++ e) old (omega (arith, next_fits, w.long));

@@ -12,10 +12,14 @@ mod keys;
 mod questions;
 mod rows;
 
-use console_figures::{Decoded, front};
-use console_lines::{BLOCK, Got, STDOUT_FILENO};
-use rules::{Answer, MOST_PLACES, MOST_TEXT};
-use std::io::Stdin;
+ghost use Rattle.std.specs.Prelude.{◌≤◌, length};
+
+use console_figures::front;
+use console_lines::{Hex, Input};
+use console_window::Screen;
+use rules::{Answer, MOST_PLACES, MOST_TEXT, Refusal};
+use std::fmt;
+use std::fmt::Write;
 
 // The longest line of the input that is run whole.
 const LONGEST_LINE: usize = 4096;
@@ -24,7 +28,7 @@ const LONGEST_LINE: usize = 4096;
 const FEW: u64 = 8;
 
 // What is asked for of a command.
-#[derive(Clone, Copy)]
+#[derive(Clone, Copy, Debug, PartialEq, Eq)]
 enum Asked {
     Record,
     Orders,
@@ -33,110 +37,74 @@ enum Asked {
 
 // Runs standard input.
 fn main(rt: HostRuntime) {
-    let mut block = io::buffer();
+    let mut input = Input::new(rt.stdin());
     let mut line = [0u8; LONGEST_LINE];
-    run(rt.stdin(), &mut block, &mut line);
+    let _ = run(&mut input, &mut line);
 }
 
 // Runs one line after the other. No input has as many lines as there are turns.
-fn run(stdin: Stdin, block: &mut [u8; BLOCK], line: &mut [u8]) {
-    let mut input = console_lines::start();
-    let mut turns = u64::MAX;
-    while 0 < turns {
-        match console_lines::next_line(stdin, block, input, line) {
-            Got::End => {
-                return;
+fn run(input: &mut Input, room: &mut [u8]) -> fmt::Result {
+    for _ in 0..u64::MAX {
+        match input.next_line(room) {
+            Ok(Some(line)) => run_line(line.kept)?,
+            Ok(None) => {
+                return Ok(());
             }
-            Got::Failed => {
-                io::write_all(STDOUT_FILENO, b"the input cannot be read\n");
-                return;
-            }
-            Got::Line {
-                kept,
-                long: _,
-                rest,
-            } => {
-                run_line(front(line, kept));
-                input = rest;
+            Err(_) => {
+                return Screen::OUT.write_str("the input cannot be read\n");
             }
         }
-        turns -= 1;
     }
+    Ok(())
 }
 
 // Runs a line, and ends what is written of it.
-fn run_line(line: &[u8]) {
-    match byte(line, 0) {
-        b'#' => run_record(behind(line, 0), Asked::Orders),
-        b'=' => run_record(behind(line, 0), Asked::List),
-        b'@' => run_command(behind(line, 0), Asked::Orders),
-        b'*' => run_command(behind(line, 0), Asked::List),
-        b'!' => keys::run(behind(line, 0)),
-        b'?' => questions::run(behind(line, 0)),
-        b'&' => rows::read(behind(line, 0)),
-        b'+' => rows::order(behind(line, 0)),
-        b'/' => rows::place(behind(line, 0)),
+fn run_line(line: &[u8]) -> fmt::Result {
+    match line {
+        [b'#', record @ ..] => run_record(record, Asked::Orders),
+        [b'=', record @ ..] => run_record(record, Asked::List),
+        [b'@', command @ ..] => run_command(command, Asked::Orders),
+        [b'*', command @ ..] => run_command(command, Asked::List),
+        [b'!', keys @ ..] => keys::run(keys),
+        [b'?', question @ ..] => questions::run(question),
+        [b'&', lent @ ..] => rows::read(lent),
+        [b'+', lent @ ..] => rows::order(lent),
+        [b'/', asked @ ..] => rows::place(asked),
         _ => run_command(line, Asked::Record),
-    }
-    io::write_all(STDOUT_FILENO, b"\n");
+    }?;
+    Screen::OUT.write_str("\n")
 }
 
-// Where the first bar stands, or the length where there is none.
-fn find_bar(line: &[u8]) -> usize {
-    find(line, b'|')
-}
-
-// Where a byte stands first, or the length where it does not stand.
-fn find(line: &[u8], b: u8) -> usize {
-    let mut i = 0;
-    while i < line.len() {
-        if line[i] == b {
-            return i;
-        }
-        i += 1;
-    }
-    i
-}
-
-// The bytes before the first bar.
-fn before_bar(line: &[u8]) -> &[u8] {
-    front(line, find_bar(line))
-}
-
-// The bytes behind the first bar.
-fn behind_bar(line: &[u8]) -> &[u8] {
-    behind(line, find_bar(line))
-}
-
-// The bytes behind the one at `at`.
-fn behind(bytes: &[u8], at: usize) -> &[u8] {
-    if at < bytes.len() {
-        &bytes[at + 1..]
-    } else {
-        &bytes[0..0]
+// The bytes before the first of these, and those behind it; all, and none, where it does not stand.
+fn split(line: &[u8], b: u8) -> (&[u8], &[u8])
+    ensures { (length result.0.now ≤ length line.now) × (length result.1.now ≤ length line.now) }
+{
+    match line.iter().position(|c| *c == b) {
+        Some(at) => (&line[..at], &line[at + 1..]),
+        None => (line, &[]),
     }
 }
 
-// The byte at `at`, or 0 past the end.
-fn byte(bytes: &[u8], at: usize) -> u8 {
-    if at < bytes.len() { bytes[at] } else { 0 }
+// The same at the first bar.
+fn at_bar(line: &[u8]) -> (&[u8], &[u8]) {
+    split(line, b'|')
 }
 
 // Reads a command behind its bases and the bar, and writes what is asked for; or the refusal.
-fn run_command(line: &[u8], asked: Asked) {
-    let bar = find_bar(line);
-    let text = behind(line, bar);
-    io::write_all(STDOUT_FILENO, text);
-    io::write_all(STDOUT_FILENO, b" -> ");
+fn run_command(line: &[u8], asked: Asked) -> fmt::Result {
+    let (bases, text) = at_bar(line);
+    let mut out = Screen::OUT;
+    out.write_bytes(text)?;
+    out.write_str(" -> ")?;
     let mut record = io::large_buffer();
-    match mml::read(text, front(line, bar), &mut record) {
-        Answer::Done(n) => write_asked(front(&record, n as usize), asked),
-        Answer::Refused(number, place) => write_refusal(number, place),
+    match mml::read(text, bases, &mut record) {
+        Ok(n) => write_asked(front(&record, n as usize), asked),
+        Err(refusal) => write_refusal(refusal),
     }
 }
 
 // Writes what is asked for of a record.
-fn write_asked(record: &[u8], asked: Asked) {
+fn write_asked(record: &[u8], asked: Asked) -> fmt::Result {
     match asked {
         Asked::Record => write_record(record),
         Asked::Orders => write_orders(record),
@@ -145,42 +113,39 @@ fn write_asked(record: &[u8], asked: Asked) {
 }
 
 // Writes the number and the place of a refusal.
-fn write_refusal(number: u8, place: u32) {
-    io::print_decimal(STDOUT_FILENO, number as u64);
-    io::write_all(STDOUT_FILENO, b" at ");
-    io::print_decimal(STDOUT_FILENO, place as u64);
+fn write_refusal(refusal: Refusal) -> fmt::Result {
+    write!(
+        Screen::OUT,
+        "{} at {}",
+        refusal.reason.number(),
+        refusal.place,
+    )
 }
 
 // Writes a record, its text, its number of orders, and whether the text is read as this record.
-fn write_record(record: &[u8]) {
-    console_lines::write_hex(STDOUT_FILENO, record);
-    io::write_all(STDOUT_FILENO, b" | ");
+fn write_record(record: &[u8]) -> fmt::Result {
+    write!(Screen::OUT, "{} | ", Hex(record))?;
     let mut text = [0u8; MOST_TEXT];
     match mml::print(record, &mut text) {
-        Answer::Done(n) => write_text(record, front(&text, n as usize)),
-        Answer::Refused(number, place) => write_refusal(number, place),
+        Ok(n) => write_text(record, front(&text, n as usize)),
+        Err(refusal) => write_refusal(refusal),
     }
 }
 
 // Writes a record's text and what follows it.
-fn write_text(record: &[u8], text: &[u8]) {
-    io::write_all(STDOUT_FILENO, text);
-    io::write_all(STDOUT_FILENO, b" | ");
+fn write_text(record: &[u8], text: &[u8]) -> fmt::Result {
+    let mut out = Screen::OUT;
+    out.write_bytes(text)?;
+    out.write_str(" | ")?;
     match mml::count(record) {
-        Answer::Done(n) => write_count(n),
-        Answer::Refused(number, place) => write_refusal(number, place),
-    }
-    if is_read_again(record, text) {
-        io::write_all(STDOUT_FILENO, b" | again: same");
+        Ok(n) => write!(out, "{n} orders"),
+        Err(refusal) => write_refusal(refusal),
+    }?;
+    out.write_str(if is_read_again(record, text) {
+        " | again: same"
     } else {
-        io::write_all(STDOUT_FILENO, b" | again: different");
-    }
-}
-
-// Writes a number of orders.
-fn write_count(n: u32) {
-    io::print_decimal(STDOUT_FILENO, n as u64);
-    io::write_all(STDOUT_FILENO, b" orders");
+        " | again: different"
+    })
 }
 
 // Whether the text, read with the record's own bases, gives the record.
@@ -188,84 +153,68 @@ fn is_read_again(record: &[u8], text: &[u8]) -> bool {
     let mut bases = [0u8; MOST_PLACES];
     let mut again = io::large_buffer();
     let n = console_figures::own_bases(record, &mut bases);
-    match mml::read(text, front(&bases, n), &mut again) {
-        Answer::Done(k) => check::same(front(&again, k as usize), record),
-        Answer::Refused(_, _) => false,
-    }
+    mml::read(text, front(&bases, n), &mut again).is_ok_and(|k| front(&again, k as usize) == record)
 }
 
 // Takes a record in hexadecimal, and writes what is asked for.
-fn run_record(digits: &[u8], asked: Asked) {
-    io::write_all(STDOUT_FILENO, digits);
-    io::write_all(STDOUT_FILENO, b" -> ");
+fn run_record(digits: &[u8], asked: Asked) -> fmt::Result {
+    let mut out = Screen::OUT;
+    out.write_bytes(digits)?;
+    out.write_str(" -> ")?;
     let mut record = io::large_buffer();
     match console_figures::decode(digits, &mut record) {
-        Decoded::Bytes(n) => write_asked(front(&record, n), asked),
-        Decoded::Wrong(_) => {
-            io::write_all(STDOUT_FILENO, b"no hexadecimal");
-        }
+        Ok(n) => write_asked(front(&record, n), asked),
+        Err(_) => out.write_str("no hexadecimal"),
     }
 }
 
 // Writes the bytes of a record's whole list.
-fn write_list(record: &[u8]) {
+fn write_list(record: &[u8]) -> fmt::Result {
     let mut list = io::large_buffer();
     match mml::list(record, &mut list) {
-        Answer::Done(n) => {
-            console_lines::write_hex(STDOUT_FILENO, front(&list, n as usize));
-        }
-        Answer::Refused(number, place) => write_refusal(number, place),
+        Ok(n) => write!(Screen::OUT, "{}", Hex(front(&list, n as usize))),
+        Err(refusal) => write_refusal(refusal),
     }
 }
 
 // Writes the number of a record's orders, the orders, and what is answered for the number behind the last.
-fn write_orders(record: &[u8]) {
+fn write_orders(record: &[u8]) -> fmt::Result {
     match mml::count(record) {
-        Answer::Done(n) => {
-            write_count(n);
-            write_some(record, n as u64);
-            write_order(record, n as u64);
+        Ok(n) => {
+            write!(Screen::OUT, "{n} orders")?;
+            write_some(record, u64::from(n))?;
+            write_order(record, u64::from(n))
         }
-        Answer::Refused(number, place) => write_refusal(number, place),
+        Err(refusal) => write_refusal(refusal),
     }
 }
 
 // Writes all orders where they are few, else the first and the last.
-fn write_some(record: &[u8], count: u64) {
-    if count <= FEW {
-        write_all(record, count);
-    } else {
-        write_order(record, 0);
-        write_order(record, count - 1);
+fn write_some(record: &[u8], count: u64) -> fmt::Result {
+    if FEW < count {
+        write_order(record, 0)?;
+        return write_order(record, count - 1);
     }
-}
-
-// Writes the orders below `count`, in turn.
-fn write_all(record: &[u8], count: u64) {
-    let mut k = 0;
-    while k < count {
-        write_order(record, k);
-        k += 1;
+    for k in 0..count {
+        write_order(record, k)?;
     }
+    Ok(())
 }
 
 // Writes the text of order k.
-fn write_order(record: &[u8], k: u64) {
-    io::write_all(STDOUT_FILENO, b" | ");
+fn write_order(record: &[u8], k: u64) -> fmt::Result {
+    let mut out = Screen::OUT;
+    out.write_str(" | ")?;
     let mut order = io::large_buffer();
     let mut text = [0u8; MOST_TEXT];
     match order_text(record, k, &mut order, &mut text) {
-        Answer::Done(n) => {
-            io::write_all(STDOUT_FILENO, front(&text, n as usize));
-        }
-        Answer::Refused(number, place) => write_refusal(number, place),
+        Ok(n) => out.write_bytes(front(&text, n as usize)),
+        Err(refusal) => write_refusal(refusal),
     }
 }
 
 // Puts the text of order k into `text`, by way of the order's record.
 fn order_text(record: &[u8], k: u64, order: &mut [u8], text: &mut [u8]) -> Answer {
-    match mml::order(record, k, order) {
-        Answer::Done(n) => mml::print(front(order, n as usize), text),
-        Answer::Refused(number, place) => Answer::Refused(number, place),
-    }
+    let n = mml::order(record, k, order)?;
+    mml::print(front(order, n as usize), text)
 }

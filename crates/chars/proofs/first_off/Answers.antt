@@ -1,16 +1,13 @@
--- `first_off` meets its contract: at every turn the rule from here on says what the rule from the start says.
-use Rattle.chars.proofs.OffLaws.{off_none, off_more, off_stop, off_end}
-use borrow.Author.Rules.{rules}
+-- `first_off` meets its contract: `position` finds the first byte that is not permitted, as the rule does.
+use Rattle.std.proofs.Common.{rules, tests, not}
+use Rattle.std.proofs.lemmas.Iterator.{YieldsList-from_slice}
+use Rattle.std.proofs.lemmas.Iterator.Search.{position_from_yields_List}
+use Rattle.rules.specs.Characters.{is_permitted}
+use Rattle.chars.proofs.ClassLaws.{told_off}
+use Rattle.chars.proofs.OffLaws.{off_is}
 use Rattle.chars.proofs.first_off.Goals as goal
 
-pub loop-i-init : goal.loop-i-init
-loop-i-init c = off_none _
-
-pub returns-then-class-eq-NOT_PERMITTED : goal.returns-then-class-eq-NOT_PERMITTED
-returns-then-class-eq-NOT_PERMITTED c = search (rules, off_stop)
-
-pub loop-i-preserved : goal.loop-i-preserved
-loop-i-preserved c = search (rules, off_more)
-
 pub returns : goal.returns
-returns c = search (rules, off_end)
+returns c =
+    let p = position_from_yields_List (λ b. not (is_permitted b)) _ _ c.position.result c.position.ensures.ran (YieldsList-from_slice _ c.iter.ensures.rest) (λ x b q k. search (rules, tests, told_off)) in
+    off_is c.args.text.now c.position.result p

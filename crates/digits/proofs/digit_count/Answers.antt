@@ -1,5 +1,4 @@
 -- The digits counted and those of the quotient that is left make all digits of n.
-use native.Mathlib.Nat.{div-lt_self}
 use Rattle.digits.proofs.DigitLaws.{counting_none, counting_more, counting_all}
 use mathlib.Core.Path.{refl}
 use native.Mathlib.Omega.{arith}
@@ -7,9 +6,6 @@ use Rattle.digits.proofs.digit_count.Goals as goal
 
 pub loop-m-init : goal.loop-m-init
 loop-m-init c = let a = c.args in counting_none a.base a.n (omega arith)
-
-pub loop-m-smaller : goal.loop-m-smaller
-loop-m-smaller c = div-lt_self (omega arith) (omega arith)
 
 pub loop-m-preserved : goal.loop-m-preserved
 loop-m-preserved c = counting_more _ refl (omega arith) c.loop-m-test.true c.loop-m.invariant

@@ -1,12 +1,7 @@
 -- The run from here on, behind the value so far, is the run from the start.
 use Rattle.digits.specs.Digits.{digits_at}
 use mathlib.Core.Path.{◌≡◌}
-use lib.ListN.{length}
-use Prim.Native.Nat.{◌-◌}
 use Rattle.digits.proofs.digits.Given as goal
 
 abbrev pub invariant-loop-i : goal.invariant-loop-i
-invariant-loop-i l = digits_at l.base l.word l.from l.start ≡ digits_at l.base l.word l.i l.v
-
-abbrev pub decreases-loop-i : goal.decreases-loop-i
-decreases-loop-i l = length l.word - l.i
+invariant-loop-i l = (l.run.end ≡ l.i) × (digits_at l.base l.word l.from l.start ≡ digits_at l.base l.word l.i l.run.value)

@@ -1,12 +1,8 @@
 -- The digits still to come, written over the buffer as it is, give the final buffer.
-use Prim.Native.Nat.{◌-◌, ◌≤◌}
-use native.Mathlib.Nat.{mod-lt}
+use Prim.Native.Nat.{◌-◌}
 use Rattle.digits.proofs.DigitLaws.{writing_more, writing_all}
 use native.Mathlib.Omega.{arith}
 use Rattle.digits.proofs.put_digits.Goals as goal
-
-pub digit_char-requires : goal.digit_char-requires
-digit_char-requires c = let z : 1 ≤ c.args.base = omega arith in omega (arith, mod-lt c.loop-i.m z)
 
 pub loop-i-preserved : goal.loop-i-preserved
 loop-i-preserved c = rw c.digit_char.ensures (writing_more (c.loop-i.i - 1) (omega arith) c.loop-i.invariant)

@@ -5,6 +5,3 @@ use Rattle.digits.proofs.put_digits.Given as goal
 
 abbrev pub invariant-loop-i : goal.invariant-loop-i
 invariant-loop-i l = Writing (fixed l.k l.base l.n) l.initial.out l.base l.i l.m l.out
-
-abbrev pub decreases-loop-i : goal.decreases-loop-i
-decreases-loop-i l = l.i

@@ -1,11 +1,6 @@
 -- What is copied so far lies over the start of the buffer.
-use Prim.Native.Nat.{◌-◌}
-use lib.ListN.{length}
 use Rattle.fields.proofs.CopyLaws.{Copying}
 use Rattle.fields.proofs.put_bytes.Given as goal
 
 abbrev pub invariant-loop-i : goal.invariant-loop-i
 invariant-loop-i l = Copying l.content l.initial.out l.out l.i
-
-abbrev pub decreases-loop-i : goal.decreases-loop-i
-decreases-loop-i l = length l.content - l.i

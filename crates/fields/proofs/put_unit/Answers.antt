@@ -1,6 +1,7 @@
 -- The writer of each kind leaves the field of that kind.
 use borrow.Author.Rules.{rules}
-use Rattle.fields.proofs.UnitLaws.{numeral_len, numeral_room, numeral_over, keyed_inside, keyed_len, keyed_room, keyed_over, identifier_size, symbolic_size, whole_len, whole_room, identifier_over, symbolic_over, unreadable_none, big_none}
+use Rattle.fields.proofs.UnitLaws.{numeral_len, numeral_room, numeral_over, keyed_inside, keyed_len, keyed_room, keyed_over, identifier_size, symbolic_size, whole_len, whole_room, identifier_over, symbolic_over}
+use Rattle.fields.specs.Units.{unit_bytes}
 use Rattle.fields.proofs.put_unit.Goals as goal
 
 pub put_numeral-requires : goal.put_numeral-requires
@@ -30,8 +31,6 @@ returns-in-Identifier c = search (rules, whole_len, identifier_size, identifier_
 pub returns-in-Symbolic : goal.returns-in-Symbolic
 returns-in-Symbolic c = search (rules, whole_len, symbolic_size, symbolic_over)
 
-pub returns-in-Unreadable : goal.returns-in-Unreadable
-returns-in-Unreadable c = search (rules, unreadable_none)
-
-pub returns-in-TooBig : goal.returns-in-TooBig
-returns-in-TooBig c = search (rules, big_none)
+pub returns-in_default : goal.returns-in_default
+unfolding unit_bytes
+returns-in_default c = search rules

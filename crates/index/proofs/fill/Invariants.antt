@@ -4,8 +4,8 @@ use Prim.Native.Nat.{◌-◌}
 use Rattle.index.proofs.RowLaws.{Filling}
 use Rattle.index.proofs.fill.Given as goal
 
-abbrev pub invariant-loop-at : goal.invariant-loop-at
-invariant-loop-at l = Filling l.rec l.initial.row l.at l.i l.row
+abbrev pub invariant-loop-start : goal.invariant-loop-start
+invariant-loop-start l = Filling l.rec l.initial.row l.start l.i l.row
 
-abbrev pub decreases-loop-at : goal.decreases-loop-at
-decreases-loop-at l = length l.rec - l.at
+abbrev pub decreases-loop-start : goal.decreases-loop-start
+decreases-loop-start l = length l.rec - l.start

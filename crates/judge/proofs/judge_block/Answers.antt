@@ -6,17 +6,17 @@ use Rattle.judge.proofs.judge_block.Goals as goal
 pub field_at-requires : goal.field_at-requires
 field_at-requires c = search (rules, block_inside)
 
-pub returns-in_default : goal.returns-in_default
-returns-in_default c = search (rules, block_gone)
+pub returns-in_err-field : goal.returns-in_err-field
+returns-in_err-field c = rw c.from_residual.ensures (search (rules, block_gone, c.in_err-field.was))
 
-pub bounds-rec-start : goal.bounds-rec-start
-bounds-rec-start c = search (rules, kind_inside)
+pub bounds-rec-field : goal.bounds-rec-field
+bounds-rec-field c = search (rules, kind_inside, c.in_ok-field.was)
 
 pub judge_places-requires : goal.judge_places-requires
-judge_places-requires c = search (rules, behind_inside)
+judge_places-requires c = search (rules, behind_inside, c.in_ok-field.was)
 
 pub returns-then-is_kind : goal.returns-then-is_kind
-returns-then-is_kind c = search (rules, block_as)
+returns-then-is_kind c = search (rules, block_as, c.in_ok-field.was)
 
 pub returns : goal.returns
-returns c = search (rules, block_no)
+returns c = search (rules, block_no, c.in_ok-field.was)

@@ -6,12 +6,12 @@ use Rattle.judge.proofs.judge_body.Goals as goal
 pub returns-then-rec-gt-MOST_TOLD : goal.returns-then-rec-gt-MOST_TOLD
 returns-then-rec-gt-MOST_TOLD c = long_refused c.args.rec.now c.if-rec-gt-MOST_TOLD.true
 
-pub returns-in_default : goal.returns-in_default
-returns-in_default c = code_gone c.args.rec.now c.in_default.is c.judge_pieces.ensures
+pub returns-in_err-code : goal.returns-in_err-code
+returns-in_err-code c = rw c.from_residual.ensures (code_gone c.args.rec.now c.in_err-code.ensures)
 
-pub returns-then-count-eq0 : goal.returns-then-count-eq0
-returns-then-count-eq0 c = code_empty c.args.rec.now c.in-Are.is c.judge_pieces.ensures c.if-count-eq0.true
+pub returns-then-code-eq0 : goal.returns-then-code-eq0
+returns-then-code-eq0 c = code_empty c.args.rec.now c.in_ok-code.ensures c.if-code-eq0.true
 
 pub returns : goal.returns
 returns c =
-    judged_as c.args.rec.now c.in-Are.is c.judge_pieces.ensures (λ i. omega (arith, c.shared_slice_known-1.given i)) c.if-count-eq0.false _ _ _ c.judge_blocks.ensures
+    judged_as c.args.rec.now c.in_ok-code.ensures (λ i. omega (arith, c.shared_slice_known-1.given i)) c.if-code-eq0.false _ _ _ c.judge_blocks.ensures

@@ -1,13 +1,7 @@
--- `times` meets its contract: a number of arguments up to one leaves the orders as they are, which are not too many.
-use borrow.Author.Tests.{le-leb, lt-leb}
-use Rattle.judge.proofs.PlacesLaws.{times_many, times_one}
+-- `times` meets its contract: an omitted place counts one.
+use mathlib.Core.Path.{refl}
+use Rattle.judge.proofs.PlacesLaws.{counted_most}
 use Rattle.judge.proofs.times.Goals as goal
 
-pub returns-then-product-gt-MOST_ORDERS : goal.returns-then-product-gt-MOST_ORDERS
-returns-then-product-gt-MOST_ORDERS c = let a = c.args in rw (← times_many a.total a.number c.if-number-gt1.true, lt-leb _ _ c.if-product-gt-MOST_ORDERS.true)
-
-pub returns-then-number-gt1 : goal.returns-then-number-gt1
-returns-then-number-gt1 c = let a = c.args in rw (← times_many a.total a.number c.if-number-gt1.true, le-leb _ _ c.if-product-gt-MOST_ORDERS.false)
-
 pub returns : goal.returns
-returns c = let a = c.args in rw (← times_one a.total a.number c.if-number-gt1.false, le-leb _ _ c.requires.0)
+returns c = rw (c.then_some.ensures, c.max.ensures, counted_most) refl

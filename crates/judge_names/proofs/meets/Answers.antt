@@ -6,5 +6,5 @@ use Rattle.judge_names.proofs.meets.Goals as goal
 pub returns-then-has : goal.returns-then-has
 returns-then-has c ps nm b n h = c.stands.ensures ps nm b n
 
-pub returns : goal.returns
-returns c = search (rules, meets_not)
+pub returns-else-has : goal.returns-else-has
+returns-else-has c = search (rules, meets_not)

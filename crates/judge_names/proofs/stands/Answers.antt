@@ -6,8 +6,8 @@ use Rattle.judge_names.proofs.stands.Goals as goal
 pub loop-at-init : goal.loop-at-init
 loop-at-init c = search (rules, standing_none)
 
-pub returns-then-same : goal.returns-then-same
-returns-then-same c = search (rules, standing_here)
+pub returns-then-eq : goal.returns-then-eq
+returns-then-eq c = search (rules, standing_here)
 
 pub loop-at-smaller : goal.loop-at-smaller
 loop-at-smaller c = search (rules, standing_less)

@@ -6,17 +6,17 @@ use Rattle.judge_place.proofs.judge_place.Goals as goal
 pub field_at-requires : goal.field_at-requires
 field_at-requires c = search (rules, place_inside)
 
-pub returns-in_default : goal.returns-in_default
-returns-in_default c = search (rules, place_gone)
+pub returns-in_err-field : goal.returns-in_err-field
+returns-in_err-field c = rw c.from_residual.ensures (search (rules, place_gone, c.in_err-field.was))
 
-pub bounds-rec-start : goal.bounds-rec-start
-bounds-rec-start c = search (rules, letter_inside)
+pub bounds-rec-field : goal.bounds-rec-field
+bounds-rec-field c = search (rules, letter_inside, c.in_ok-field.was)
 
 pub judge_parts-requires : goal.judge_parts-requires
-judge_parts-requires c = search (rules, behind_inside)
+judge_parts-requires c = search (rules, behind_inside, c.in_ok-field.was)
 
 pub returns-then-is_base : goal.returns-then-is_base
-returns-then-is_base c = search (rules, place_as)
+returns-then-is_base c = search (rules, place_as, c.in_ok-field.was)
 
 pub returns : goal.returns
-returns c = search (rules, place_no)
+returns c = search (rules, place_no, c.in_ok-field.was)

@@ -7,38 +7,39 @@ use Rattle.judge_value.proofs.judge_element.Goals as goal
 pub field_at-requires : goal.field_at-requires
 field_at-requires c = let a = c.args in element_inside a.rec.now a.at c.requires
 
-pub returns-in_default : goal.returns-in_default
-returns-in_default c = let a = c.args in element_gone _ a.rec.now a.at c.in_default.is c.field_at.ensures
+pub returns-in_err-field : goal.returns-in_err-field
+returns-in_err-field c = let a = c.args in rw c.from_residual.ensures (element_gone _ a.rec.now a.at c.in_err-field.was c.field_at.ensures)
 
 pub judge_units-requires : goal.judge_units-requires
-judge_units-requires c = let a = c.args in let f = field_there a.rec.now a.at c.in-Field.is c.field_at.ensures in f.inside
+judge_units-requires c = let a = c.args in let f = field_there a.rec.now a.at c.in_ok-field.was c.field_at.ensures in f.inside
 
-pub returns-in_default-judge_units : goal.returns-in_default-judge_units
-returns-in_default-judge_units c =
+pub returns-in_err-units : goal.returns-in_err-units
+returns-in_err-units c =
     let a = c.args in
-    let f = field_there a.rec.now a.at c.in-Field.is c.field_at.ensures in
-    units_gone f _ c.in_default-judge_units.is c.judge_units.ensures
-
-pub returns-then-start-first : goal.returns-then-start-first
-returns-then-start-first c =
-    let a = c.args in
-    let f = field_there a.rec.now a.at c.in-Field.is c.field_at.ensures in
-    single_is f c.in-Are.ensures c.requires c.if-start-first.true
+    let f = field_there a.rec.now a.at c.in_ok-field.was c.field_at.ensures in
+    rw c.from_residual-in_err-units.ensures (units_gone f _ c.in_err-units.ensures)
 
 pub range_terms-requires : goal.range_terms-requires
 range_terms-requires c =
     let a = c.args in
-    let f = field_there a.rec.now a.at c.in-Field.is c.field_at.ensures in
-    (range_room f c.requires c.if-start-first.false, last_inside c.in-Are.ensures, lower_room c.in-Are.ensures (λ i. omega (arith, c.shared_slice_known-1.given i)))
+    let f = field_there a.rec.now a.at c.in_ok-field.was c.field_at.ensures in
+    (range_room f c.requires c.if-field.false, last_inside c.in_ok-units.ensures, lower_room c.in_ok-units.ensures (λ i. omega (arith, c.shared_slice_known-1.given i)))
 
-pub returns-in-More : goal.returns-in-More
-returns-in-More c =
+pub returns-in_err-more : goal.returns-in_err-more
+returns-in_err-more c =
     let a = c.args in
-    let f = field_there a.rec.now a.at c.in-Field.is c.field_at.ensures in
-    range_is f c.in-Are.ensures c.requires c.if-start-first.false (λ i. omega (arith, c.shared_slice_known-1.given i)) c.range_terms.ensures c.in-More.is
+    let f = field_there a.rec.now a.at c.in_ok-field.was c.field_at.ensures in
+    rw c.from_residual-in_err-more.ensures
+    (range_bad f c.in_ok-units.ensures c.requires c.if-field.false (λ i. omega (arith, c.shared_slice_known-1.given i)) c.range_terms.ensures c.in_err-more.was)
 
-pub returns : goal.returns
-returns c =
+pub returns-in_ok-more : goal.returns-in_ok-more
+returns-in_ok-more c =
     let a = c.args in
-    let f = field_there a.rec.now a.at c.in-Field.is c.field_at.ensures in
-    range_bad f c.in-Are.ensures c.requires c.if-start-first.false (λ i. omega (arith, c.shared_slice_known-1.given i)) c.range_terms.ensures c.in_default-range_terms.is
+    let f = field_there a.rec.now a.at c.in_ok-field.was c.field_at.ensures in
+    range_is f c.in_ok-units.ensures c.requires c.if-field.false (λ i. omega (arith, c.shared_slice_known-1.given i)) c.range_terms.ensures c.in_ok-more.was
+
+pub returns-then-field : goal.returns-then-field
+returns-then-field c =
+    let a = c.args in
+    let f = field_there a.rec.now a.at c.in_ok-field.was c.field_at.ensures in
+    single_is f c.in_ok-units.ensures c.requires c.if-field.true

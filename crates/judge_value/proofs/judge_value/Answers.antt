@@ -6,25 +6,25 @@ use Rattle.judge_value.proofs.judge_value.Goals as goal
 pub returns-then-left-eq0 : goal.returns-then-left-eq0
 returns-then-left-eq0 c = value_full c.loop-from.invariant c.head_tag.ensures c.is_element.ensures c.loop-from-test.true c.if-left-eq0.true
 
-pub returns-in_default : goal.returns-in_default
-returns-in_default c =
-    value_bad c.loop-from.invariant c.head_tag.ensures c.is_element.ensures c.loop-from-test.true c.if-left-eq0.false c.in_default.is c.judge_element.ensures
+pub returns-in_err-element : goal.returns-in_err-element
+returns-in_err-element c =
+    rw c.from_residual.ensures (value_bad c.loop-from.invariant c.head_tag.ensures c.is_element.ensures c.loop-from-test.true c.if-left-eq0.false c.in_err-element.ensures)
 
 -- the element that joins those before, and their arguments
 
 pub overflow_add-arguments : goal.overflow_add-arguments
-overflow_add-arguments c = let e = c.in-Is in omega (arith, joined_few _ _ _ e.more c.joins.ensures c.if-joins.true)
+overflow_add-arguments c = let e = c.in_ok-element.element in omega (arith, joined_few _ _ _ e.more c.joins.ensures c.if-not-joins.false)
 
-pub overflow_add-arguments-then-joins : goal.overflow_add-arguments-then-joins
-overflow_add-arguments-then-joins c = let e = c.in-Is in omega (arith, joined_few _ _ _ e.more c.joins.ensures c.if-joins.true)
+pub overflow_add-arguments-in-loop-from : goal.overflow_add-arguments-in-loop-from
+overflow_add-arguments-in-loop-from c = let e = c.in_ok-element.element in omega (arith, joined_few _ _ _ e.more c.joins.ensures c.if-not-joins.false)
 
 pub loop-from-preserved : goal.loop-from-preserved
 loop-from-preserved c =
-    value_more c.loop-from.invariant c.head_tag.ensures c.is_element.ensures c.in-Is.ensures c.joins.ensures c.loop-from-test.true c.if-left-eq0.false c.if-joins.true
+    value_more c.loop-from.invariant c.head_tag.ensures c.is_element.ensures c.in_ok-element.ensures c.joins.ensures c.loop-from-test.true c.if-left-eq0.false c.if-not-joins.false
 
-pub returns-else-joins : goal.returns-else-joins
-returns-else-joins c =
-    value_apart c.loop-from.invariant c.head_tag.ensures c.is_element.ensures c.in-Is.is c.judge_element.ensures c.joins.ensures c.loop-from-test.true c.if-left-eq0.false c.if-joins.false
+pub returns-then-not-joins : goal.returns-then-not-joins
+returns-then-not-joins c =
+    value_apart c.loop-from.invariant c.head_tag.ensures c.is_element.ensures c.in_ok-element.ensures c.joins.ensures c.loop-from-test.true c.if-left-eq0.false c.if-not-joins.true
 
 pub returns : goal.returns
 returns c = value_end c.loop-from.invariant c.head_tag.ensures c.is_element.ensures c.loop-from-test.false

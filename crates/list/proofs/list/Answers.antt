@@ -1,44 +1,28 @@
 -- `list` meets its contract: the judge's answer gives the command and its row, and the list of what stands behind the head is the command's.
 use borrow.Author.Rules.{rules}
-use Rattle.judge.proofs.ToldLaws.{judged_row, judged_count, judged_cut, head_room}
-use Rattle.list.proofs.AnswerLaws.{list_bad, judged_unrolls, list_answer, moves_inside, moves_few, moves_cut, moves_unroll, standings_cut, standings_even}
+use Rattle.std.proofs.lemmas.Result.{err_from_is_err_and}
+use Rattle.judge.proofs.ToldLaws.{head_room}
+use Rattle.judge.proofs.HeadBytes.{ok_or_refused}
+use Rattle.list.proofs.AnswerLaws.{list_bad, judged_unrolls, list_answer, moves_unroll, standings_even}
 use Rattle.list.proofs.list.Goals as goal
 
-pub returns-in_default : goal.returns-in_default
-returns-in_default c = search (rules, list_bad)
-
-pub overflow_mul-told : goal.overflow_mul-told
-overflow_mul-told c = search (rules, judged_count)
+pub returns-in_err-judged : goal.returns-in_err-judged
+returns-in_err-judged c =
+    let p = err_from_is_err_and c.from_residual.result c.from_residual.ensures.1 in
+    let q = ok_or_refused c.judge.result c.in_err-judged.field-0.0 c.at.result c.in_err-judged.ensures.value in
+    rw (p.1, p.2, q.1, c.at.ensures) (list_bad _ _ c.args.out.now q.0 c.judge.ensures)
 
 pub slice_bounds-body-count : goal.slice_bounds-body-count
-slice_bounds-body-count c = search (rules, head_room)
+slice_bounds-body-count c = head_room c.args.rec.now c.judge.new.row c.in_ok-judged.ensures.ok_part c.judge.ensures
 
 pub slice_bounds-body-start : goal.slice_bounds-body-start
-slice_bounds-body-start c = search (rules, head_room)
-
-pub slice_bounds-row-end : goal.slice_bounds-row-end
-slice_bounds-row-end c = search (rules, judged_row)
-
-pub slice_bounds-moving-end : goal.slice_bounds-moving-end
-slice_bounds-moving-end c = search (rules, judged_cut)
+slice_bounds-body-start c = head_room c.args.rec.now c.judge.new.row c.in_ok-judged.ensures.ok_part c.judge.ensures
 
 pub moving-moves-requires : goal.moving-moves-requires
-moving-moves-requires c = search (rules, judged_unrolls)
-
-pub slice_bounds-row-end-2 : goal.slice_bounds-row-end-2
-slice_bounds-row-end-2 c = search (rules, moves_inside)
-
-pub slice_bounds-put_list-end : goal.slice_bounds-put_list-end
-slice_bounds-put_list-end c = search (rules, moves_cut)
-
-pub slice_bounds-standings-end : goal.slice_bounds-standings-end
-slice_bounds-standings-end c = search (rules, moves_few)
-
-pub slice_bounds-put_list-end-2 : goal.slice_bounds-put_list-end-2
-slice_bounds-put_list-end-2 c = search (rules, standings_cut)
+moving-moves-requires c = search (rules, judged_unrolls, c.in_ok-judged.ensures.ok_part)
 
 pub put_list-requires : goal.put_list-requires
-put_list-requires c = search (rules, moves_unroll, standings_even)
+put_list-requires c = search (rules, moves_unroll, standings_even, c.in_ok-judged.ensures.ok_part)
 
 pub returns : goal.returns
-returns c = search (rules, list_answer)
+returns c = list_answer c.args.rec.now c.judge.new.row c.in_ok-judged.ensures.ok_part c.judge.ensures c.args.out.now _ c.put_list.ensures

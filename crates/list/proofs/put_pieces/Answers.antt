@@ -1,6 +1,6 @@
 -- `put_pieces` meets its contract: what is written, and the pieces of the combinations that are left, are the whole list.
 use borrow.Author.Rules.{rules}
-use Rattle.list.proofs.UnrollLaws.{unrolling_none, unrolling_odometer, piece_room, order_small, unrolling_start, unrolling_fits, unrolling_less, unrolling_long, unrolling_more, unrolling_all}
+use Rattle.list.proofs.UnrollLaws.{unrolling_none, unrolling_odometer, piece_room, order_small, unrolling_start, unrolling_fits, unrolling_less, unrolling_more, unrolling_all}
 use Rattle.list.proofs.put_pieces.Goals as goal
 
 pub loop-done-init : goal.loop-done-init
@@ -24,11 +24,5 @@ loop-done-smaller c = search (rules, unrolling_less)
 pub loop-done-preserved : goal.loop-done-preserved
 loop-done-preserved c = search (rules, unrolling_more)
 
-pub shape_of-out-in-loop-done : goal.shape_of-out-in-loop-done
-shape_of-out-in-loop-done c = search (rules, unrolling_long)
-
-pub shape_of-at-in-loop-done : goal.shape_of-at-in-loop-done
-shape_of-at-in-loop-done c = search rules
-
-pub returns-in-loop-done : goal.returns-in-loop-done
-returns-in-loop-done c = search (rules, unrolling_all)
+pub returns-then-not-turn : goal.returns-then-not-turn
+returns-then-not-turn c = search (rules, unrolling_all)

@@ -23,14 +23,14 @@ overflow_sub-end c = omega (arith, (let long_is : 20 ≤ length c.args.range.now
 pub overflow_sub-same : goal.overflow_sub-same
 overflow_sub-same c = omega (arith, (let long_is : 20 ≤ length c.args.range.now = range_long c.args.range.now c.requires in long_is))
 
-pub slice_bounds-same-count : goal.slice_bounds-same-count
-slice_bounds-same-count c = omega (arith, (let long_is : 20 ≤ length c.args.range.now = range_long c.args.range.now c.requires in long_is))
+pub slice_bounds-eq-count : goal.slice_bounds-eq-count
+slice_bounds-eq-count c = omega (arith, (let long_is : 20 ≤ length c.args.range.now = range_long c.args.range.now c.requires in long_is))
 
-pub slice_bounds-same-start : goal.slice_bounds-same-start
-slice_bounds-same-start c = omega (arith, (let long_is : 20 ≤ length c.args.range.now = range_long c.args.range.now c.requires in long_is))
+pub slice_bounds-eq-start : goal.slice_bounds-eq-start
+slice_bounds-eq-start c = omega (arith, (let long_is : 20 ≤ length c.args.range.now = range_long c.args.range.now c.requires in long_is))
 
-pub slice_bounds-same-end-2 : goal.slice_bounds-same-end-2
-slice_bounds-same-end-2 c = sym (length-take-le _ _ (omega arith))
+pub slice_bounds-eq-end-2 : goal.slice_bounds-eq-end-2
+slice_bounds-eq-end-2 c = sym (length-take-le _ _ (omega arith))
 
 pub returns : goal.returns
 returns c = search (rules, alike_is)

@@ -2,7 +2,6 @@
 use borrow.Author.Rules.{rules}
 use native.Mathlib.Omega.{arith}
 use Rattle.record_walk.proofs.FrontLaws.{Small}
-use Rattle.judge_unit.proofs.UnitLaws.{unit_no, unit_yes}
 use Rattle.member.proofs.GivenLaws.{judging_none, judging_full, judging_bad, judging_less, judging_more, judging_end}
 use Rattle.member.proofs.stands.Goals as goal
 
@@ -12,16 +11,16 @@ loop-at-init c = search (rules, judging_none)
 pub returns-then-left-eq0 : goal.returns-then-left-eq0
 returns-then-left-eq0 c = search (rules, judging_full)
 
-pub returns-then-end-eq0 : goal.returns-then-end-eq0
-returns-then-end-eq0 c = search (rules, judging_bad, unit_no)
+pub returns-in_default : goal.returns-in_default
+returns-in_default c = search (rules, judging_bad, c.in_default.ensures)
 
 pub loop-at-smaller : goal.loop-at-smaller
-loop-at-smaller c = search (rules, judging_less, unit_yes)
+loop-at-smaller c = search (rules, judging_less, c.in-Some.ensures)
 
 -- every byte is below 256
 
 pub loop-at-preserved : goal.loop-at-preserved
-loop-at-preserved c = search (rules, judging_more, unit_yes, (let small : Small c.args.argument.now = λ i. omega (arith, c.type_inv.argument i) in small))
+loop-at-preserved c = search (rules, judging_more, c.in-Some.ensures, (let small : Small c.args.argument.now = λ i. omega (arith, c.type_inv.argument i) in small))
 
 pub returns : goal.returns
 returns c = search (rules, judging_end)

@@ -1,21 +1,9 @@
 -- `step` meets its contract: each test that fails leaves no step.
-use Rattle.member.proofs.TermLaws.{step_below, step_above, step_none, step_between, step_few, step_is}
+use Rattle.member.proofs.TermLaws.{step_few, step_is}
 use Prim.Native.Nat.{◌-◌, ◌/◌, ◌<◌}
 use native.Mathlib.Omega.{arith}
 use borrow.Author.Rules.{rules}
 use Rattle.member.proofs.step.Goals as goal
-
-pub returns-then-value-lower : goal.returns-then-value-lower
-returns-then-value-lower c = search (rules, step_below)
-
-pub returns-then-upper-value : goal.returns-then-upper-value
-returns-then-upper-value c = search (rules, step_above)
-
-pub returns-then-increment-eq0 : goal.returns-then-increment-eq0
-returns-then-increment-eq0 c = search (rules, step_none)
-
-pub returns-then-value-lower-ne0 : goal.returns-then-value-lower-ne0
-returns-then-value-lower-ne0 c = search (rules, step_between)
 
 -- no more steps than the value, which has four bytes
 

@@ -10,8 +10,8 @@ range_term-requires c = sym c.is_range.ensures ∙ c.if-is_range.true
 pub returns-then-is_range : goal.returns-then-is_range
 returns-then-is_range c = search (rules, term_range)
 
-pub returns-then-same : goal.returns-then-same
-returns-then-same c = search (rules, term_single)
+pub returns-then-eq : goal.returns-then-eq
+returns-then-eq c = search (rules, term_single)
 
 pub returns : goal.returns
 returns c = search (rules, term_other)

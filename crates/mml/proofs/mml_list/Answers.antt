@@ -1,7 +1,7 @@
 -- The call's promise, packed.
 use borrow.Author.Rules.{rules}
-use Rattle.mml.proofs.PackLaws.{packs}
+use Rattle.mml.proofs.PackLaws.{packs_listing}
 use Rattle.mml.proofs.mml_list.Goals as goal
 
 pub returns : goal.returns
-returns c = search (rules, packs)
+returns c = search (rules, packs_listing)

@@ -13,10 +13,10 @@ pub returns-then-number-gt1 : goal.returns-then-number-gt1
 unfolding slot_for
 returns-then-number-gt1 c = rw (lt-ltb _ _ c.if-number-gt1.true)
 
-pub returns-then-tag_at-eq-RANGE : goal.returns-then-tag_at-eq-RANGE
+pub returns-then-tag_at : goal.returns-then-tag_at
 unfolding slot_for
-returns-then-tag_at-eq-RANGE c = rw (le-ltb _ _ c.if-number-gt1.false, ← c.tag_at.ensures, eq-eqb _ _ c.if-tag_at-eq-RANGE.true)
+returns-then-tag_at c = rw (le-ltb _ _ c.if-number-gt1.false, ← c.tag_at.ensures, eq-eqb _ _ c.if-tag_at.true)
 
 pub returns : goal.returns
 unfolding slot_for
-returns c = rw (le-ltb _ _ c.if-number-gt1.false, ← c.tag_at.ensures, ne_eqb _ _ c.if-tag_at-eq-RANGE.false)
+returns c = rw (le-ltb _ _ c.if-number-gt1.false, ← c.tag_at.ensures, ne_eqb _ _ c.if-tag_at.false)

@@ -13,20 +13,20 @@ use Rattle.order.proofs.put_order.Goals.{then-out-rec+else-out-need, else-out-re
 pub overflow_add-rec : goal.overflow_add-rec
 overflow_add-rec c = search (rules, planned_length)
 
-pub overflow_cast-result : goal.overflow_cast-result
-overflow_cast-result c = search (rules, planned_small)
+pub overflow_cast-need : goal.overflow_cast-need
+overflow_cast-need c = search (rules, planned_small)
 
 pub returns-then-out-need : goal.returns-then-out-need
 returns-then-out-need c = search (rules, put_short)
 
 pub returns-then-slots-places : goal.returns-then-slots-places
-returns-then-slots-places c = search (rules, put_few, (let fits : length (order_bytes c.args.rec.now (positions_in c.args.row.now)) ≤ length c.args.out.now = elim c.if-out-rec.branch [ then-out-rec+else-out-need w ↦ omega (arith, w.whole_len-need.ensures, w.if-out-need.false) | else-out-rec w ↦ planned_fits c.requires.0 c.args.out.now w.if-out-rec.false ] in fits))
+returns-then-slots-places c = search (rules, put_few, (let fits : length (order_bytes c.args.rec.now (positions_in c.args.row.now)) ≤ length c.args.out.now = elim c.if-out-rec.branch [ then-out-rec+else-out-need w ↦ omega (arith, w.order_len-need.ensures, w.if-out-need.false) | else-out-rec w ↦ planned_fits c.requires.0 c.args.out.now w.if-out-rec.false ] in fits))
 
 pub put_whole-requires : goal.put_whole-requires
-put_whole-requires c = search (rules, (let fits : length (order_bytes c.args.rec.now (positions_in c.args.row.now)) ≤ length c.args.out.now = elim c.if-out-rec.branch [ then-out-rec+else-out-need w ↦ omega (arith, w.whole_len-need.ensures, w.if-out-need.false) | else-out-rec w ↦ planned_fits c.requires.0 c.args.out.now w.if-out-rec.false ] in fits))
+put_whole-requires c = search (rules, (let fits : length (order_bytes c.args.rec.now (positions_in c.args.row.now)) ≤ length c.args.out.now = elim c.if-out-rec.branch [ then-out-rec+else-out-need w ↦ omega (arith, w.order_len-need.ensures, w.if-out-need.false) | else-out-rec w ↦ planned_fits c.requires.0 c.args.out.now w.if-out-rec.false ] in fits))
 
-pub overflow_cast-result-2 : goal.overflow_cast-result-2
-overflow_cast-result-2 c = search (rules, planned_small)
+pub overflow_cast-result : goal.overflow_cast-result
+overflow_cast-result c = search (rules, planned_small)
 
 pub returns : goal.returns
-returns c = search (rules, put_done, (let fits : length (order_bytes c.args.rec.now (positions_in c.args.row.now)) ≤ length c.args.out.now = elim c.if-out-rec.branch [ then-out-rec+else-out-need w ↦ omega (arith, w.whole_len-need.ensures, w.if-out-need.false) | else-out-rec w ↦ planned_fits c.requires.0 c.args.out.now w.if-out-rec.false ] in fits))
+returns c = search (rules, put_done, (let fits : length (order_bytes c.args.rec.now (positions_in c.args.row.now)) ≤ length c.args.out.now = elim c.if-out-rec.branch [ then-out-rec+else-out-need w ↦ omega (arith, w.order_len-need.ensures, w.if-out-need.false) | else-out-rec w ↦ planned_fits c.requires.0 c.args.out.now w.if-out-rec.false ] in fits))

@@ -15,5 +15,5 @@ overflow_sub-result c =
 pub returns-then-is_range : goal.returns-then-is_range
 returns-then-is_range c = λ v. search (rules, valued_long)
 
-pub returns : goal.returns
-returns c = λ v. ap length (sym (valued_whole c.args.element.now v c.is_range.ensures c.if-is_range.false))
+pub returns-else-is_range : goal.returns-else-is_range
+returns-else-is_range c = λ v. ap length (sym (valued_whole c.args.element.now v c.is_range.ensures c.if-is_range.false))

@@ -1,5 +1,5 @@
 -- `term_value` meets its contract: no term is above the upper end, so product and sum fit.
-use Rattle.order_argument.proofs.TermLaws.{range_long, term_below}
+use Rattle.order_argument.proofs.TermLaws.{term_below}
 use Rattle.order_argument.specs.Terms.{is_range, more_terms, term_value}
 use Rattle.rules.specs.Records.{num4}
 use mathlib.Core.Path.{◌≡◌}
@@ -16,15 +16,6 @@ fits : (range : List ℕ) (term lower increment : ℕ) → is_range range ≡ tr
     → lower < 4294967296 → ((n : ℕ) → Fits w8 (get_or range n 0)) → lower + term * increment < 4294967296
 fits range term lower increment h k e e' low byte =
     rw e' (omega (arith, term_below range term h k, e, byte 3, byte 4, byte 5, byte 6))
-
-pub overflow_sub-range : goal.overflow_sub-range
-overflow_sub-range c = omega (arith, range_long c.args.range.now c.requires.0)
-
-pub number_at-lower-requires : goal.number_at-lower-requires
-number_at-lower-requires c = omega (arith, range_long c.args.range.now c.requires.0)
-
-pub number_at-requires : goal.number_at-requires
-number_at-requires c = omega (arith, range_long c.args.range.now c.requires.0)
 
 -- the term is no higher than the upper end, which has four bytes
 

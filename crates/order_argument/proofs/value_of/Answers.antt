@@ -11,7 +11,7 @@ term_value-requires c = (sym c.is_range.ensures ∙ c.if-is_range.true, search r
 pub returns-then-is_range : goal.returns-then-is_range
 returns-then-is_range c = ap (valued_bytes c.args.element.now) c.term_value.ensures
 
-pub returns : goal.returns
-returns c =
+pub returns-else-is_range : goal.returns-else-is_range
+returns-else-is_range c =
     let a = c.args in let x = a.element.now in
     valued_whole x 0 c.is_range.ensures c.if-is_range.false ∙ sym (valued_whole x (term_value x a.term) c.is_range.ensures c.if-is_range.false)

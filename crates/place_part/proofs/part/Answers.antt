@@ -24,4 +24,4 @@ slice_bounds-result-end-2 c = search (rules, handed_inside)
 
 pub returns : goal.returns
 returns c =
-    hands_part _ _ _ c.place.ensures c.in-Done.is c.start-from.ensures (search rules) (search rules) (omega arith)
+    hands_part _ _ _ c.place.ensures c.in-Ok.is c.start-from.ensures (search rules) (search rules) (omega arith)

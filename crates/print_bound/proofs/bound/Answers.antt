@@ -9,41 +9,41 @@ loop-at-init c = bounding c.args.rec.now c.requires (λ i. omega (arith, c.share
 
 -- a numeral's field
 
-pub bounds-rec-at-then-tag-eq-NUMERAL : goal.bounds-rec-at-then-tag-eq-NUMERAL
-bounds-rec-at-then-tag-eq-NUMERAL c = search (rules, numeral_letter)
+pub bounds-rec-at-then-tag : goal.bounds-rec-at-then-tag
+bounds-rec-at-then-tag c = search (rules, numeral_letter)
 
-pub bounds-rec-at-then-tag-eq-NUMERAL-2 : goal.bounds-rec-at-then-tag-eq-NUMERAL-2
-bounds-rec-at-then-tag-eq-NUMERAL-2 c = search (rules, numeral_fraction)
+pub bounds-rec-at-then-tag-2 : goal.bounds-rec-at-then-tag-2
+bounds-rec-at-then-tag-2 c = search (rules, numeral_fraction)
 
 pub number_at-requires : goal.number_at-requires
 number_at-requires c = search (rules, numeral_value)
 
-pub loop-at-preserved-then-tag-eq-NUMERAL : goal.loop-at-preserved-then-tag-eq-NUMERAL
-loop-at-preserved-then-tag-eq-NUMERAL c = search (rules, numeral_turn)
+pub loop-at-preserved-then-tag : goal.loop-at-preserved-then-tag
+loop-at-preserved-then-tag c = search (rules, numeral_turn)
 
 pub overflow_add-sum : goal.overflow_add-sum
-overflow_add-sum c = omega (arith, loop-at-preserved-then-tag-eq-NUMERAL c)
+overflow_add-sum c = omega (arith, loop-at-preserved-then-tag c)
 
 -- a single element's
 
-pub loop-at-preserved-then-tag-eq-SINGLE : goal.loop-at-preserved-then-tag-eq-SINGLE
-loop-at-preserved-then-tag-eq-SINGLE c = search (rules, single_turn)
+pub loop-at-preserved-then-tag-2 : goal.loop-at-preserved-then-tag-2
+loop-at-preserved-then-tag-2 c = search (rules, single_turn)
 
 -- a place's
 
-pub loop-at-preserved-then-tag-eq-PLACE : goal.loop-at-preserved-then-tag-eq-PLACE
-loop-at-preserved-then-tag-eq-PLACE c = search (rules, place_turn)
+pub loop-at-preserved-then-tag-3 : goal.loop-at-preserved-then-tag-3
+loop-at-preserved-then-tag-3 c = search (rules, place_turn)
 
-pub bounds-rec-at-then-tag-eq-PLACE : goal.bounds-rec-at-then-tag-eq-PLACE
-bounds-rec-at-then-tag-eq-PLACE c = search (rules, place_base)
+pub bounds-rec-at-then-tag-3 : goal.bounds-rec-at-then-tag-3
+bounds-rec-at-then-tag-3 c = search (rules, place_base)
 
 -- any other
 
 pub other_bound-sum-requires : goal.other_bound-sum-requires
 other_bound-sum-requires c = search (rules, stands_there)
 
-pub overflow_add-sum-else-tag-eq-PLACE : goal.overflow_add-sum-else-tag-eq-PLACE
-overflow_add-sum-else-tag-eq-PLACE c = search (rules, other_sum)
+pub overflow_add-sum-else-tag-3 : goal.overflow_add-sum-else-tag-3
+overflow_add-sum-else-tag-3 c = search (rules, other_sum)
 
 pub size_at-at-requires : goal.size_at-at-requires
 size_at-at-requires c = search (rules, stands_there)
@@ -51,8 +51,8 @@ size_at-at-requires c = search (rules, stands_there)
 pub loop-at-preserved : goal.loop-at-preserved
 loop-at-preserved c = search (rules, other_turn)
 
-pub overflow_add-at-else-tag-eq-PLACE : goal.overflow_add-at-else-tag-eq-PLACE
-overflow_add-at-else-tag-eq-PLACE c = omega (arith, loop-at-preserved c)
+pub overflow_add-at-else-tag-3 : goal.overflow_add-at-else-tag-3
+overflow_add-at-else-tag-3 c = omega (arith, loop-at-preserved c)
 
 pub returns : goal.returns
 returns c = search (rules, finished)

@@ -8,22 +8,22 @@ pub bounds-rec-at : goal.bounds-rec-at
 bounds-rec-at c = omega (arith, head_room c.requires)
 
 pub number_at-requires : goal.number_at-requires
-number_at-requires c = omega (arith, range_room c.requires c.in-6.is)
+number_at-requires c = omega (arith, range_room c.requires c.if-tag.true)
 
-pub number_at-requires-in-6 : goal.number_at-requires-in-6
-number_at-requires-in-6 c = omega (arith, range_room c.requires c.in-6.is)
+pub number_at-requires-then-tag : goal.number_at-requires-then-tag
+number_at-requires-then-tag c = omega (arith, range_room c.requires c.if-tag.true)
 
 pub overflow_add-result : goal.overflow_add-result
-overflow_add-result c = omega (arith, end_few c.number_at.result, end_few c.number_at-in-6.result)
+overflow_add-result c = omega (arith, end_few c.number_at.result, end_few c.number_at-then-tag.result)
 
-pub overflow_add-result-in-11 : goal.overflow_add-result-in-11
-overflow_add-result-in-11 c = omega (arith, content_few c.requires)
+pub overflow_add-result-then-tag-2 : goal.overflow_add-result-then-tag-2
+overflow_add-result-then-tag-2 c = omega (arith, content_few c.requires)
 
-pub returns-in-6 : goal.returns-in-6
-returns-in-6 c = search (rules, other_range)
+pub returns-then-tag : goal.returns-then-tag
+returns-then-tag c = search (rules, other_range)
 
-pub returns-in-11 : goal.returns-in-11
-returns-in-11 c = search (rules, other_string)
+pub returns-then-tag-2 : goal.returns-then-tag-2
+returns-then-tag-2 c = search (rules, other_string)
 
-pub returns-in_default : goal.returns-in_default
-returns-in_default c = search (rules, other_word)
+pub returns : goal.returns
+returns c = search (rules, other_word)

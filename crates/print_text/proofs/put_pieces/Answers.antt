@@ -1,18 +1,18 @@
--- At every turn the pieces done stand over the start of the buffer, the others stand in the record.
-use borrow.Author.Rules.{rules}
-use native.Mathlib.Omega.{arith}
-use Rattle.print_text.proofs.PieceLaws.{measuring_more, pieces_written, writing_more, writing_none}
+-- At every turn the pieces done stand in the buffer, the others stand in the record.
+use Rattle.print_text.proofs.PieceLaws.{dash_fits, piece_fits, pieces_put, putting_more, putting_none}
 use Rattle.print_text.proofs.put_pieces.Goals as goal
 
-pub loop-from-init : goal.loop-from-init
-loop-from-init c = search (rules, writing_none)
+pub loop-tag-init : goal.loop-tag-init
+loop-tag-init g c = putting_none c.requires
+
+pub put_bytes-behind-requires : goal.put_bytes-behind-requires
+put_bytes-behind-requires g c = piece_fits c.loop-tag.invariant c.behind-next.ensures c.requires
 
 pub returns-then-tag_at-tag : goal.returns-then-tag_at-tag
-returns-then-tag_at-tag c = search (rules, pieces_written)
+returns-then-tag_at-tag g c = pieces_put c.loop-tag.invariant c.behind-next.ensures c.put_bytes-behind.ensures c.tag_at.ensures c.if-tag_at-tag.true
 
-pub put_u8-requires : goal.put_u8-requires
-put_u8-requires c =
-    omega (arith, measuring_more c.loop-from.invariant.measured c.behind-next.ensures c.tag_at.ensures c.if-tag_at-tag.false c.requires)
+pub put_u8-end-requires : goal.put_u8-end-requires
+put_u8-end-requires g c = dash_fits c.loop-tag.invariant c.behind-next.ensures c.put_bytes-behind.ensures c.tag_at.ensures c.if-tag_at-tag.false c.requires
 
-pub loop-from-preserved : goal.loop-from-preserved
-loop-from-preserved c = search (rules, writing_more)
+pub loop-tag-preserved : goal.loop-tag-preserved
+loop-tag-preserved g c = putting_more c.loop-tag.invariant c.behind-next.ensures c.put_bytes-behind.ensures c.tag_at.ensures c.if-tag_at-tag.false c.requires c.put_u8-end.ensures

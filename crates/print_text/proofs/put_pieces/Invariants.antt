@@ -1,11 +1,11 @@
--- At every turn the pieces done stand over the start of the buffer, the others stand in the record.
+-- At every turn the pieces done stand in the buffer, the others stand in the record.
 use Prim.Native.Nat.{◌-◌}
 use lib.ListN.{length}
-use Rattle.print_text.proofs.PieceLaws.{Writing}
+use Rattle.print_text.proofs.PieceLaws.{Putting}
 use Rattle.print_text.proofs.put_pieces.Given as goal
 
-abbrev pub invariant-loop-from : goal.invariant-loop-from
-invariant-loop-from l = Writing l.rec l.from l.tag l.initial.out l.out l.at l.k
+abbrev pub invariant-loop-tag : goal.invariant-loop-tag
+invariant-loop-tag g l = Putting g.S.Sink.way l.rec l.fn.from.next l.tag l.fn.from.end l.initial.out l.piece l.end l.out
 
-abbrev pub decreases-loop-from : goal.decreases-loop-from
-decreases-loop-from l = length l.rec - l.at
+abbrev pub decreases-loop-tag : goal.decreases-loop-tag
+decreases-loop-tag g l = length l.rec - l.piece

@@ -1,27 +1,16 @@
--- What is stored and what the rest will store are the whole text.
+-- What is put and what the rest will put are the whole text.
 use borrow.Author.Rules.{rules}
-use native.Mathlib.Omega.{arith}
-use lib.ListN.{length-set}
-use Rattle.print_unit.proofs.StringLaws.{counted_all, doubling_end, doubling_mark, doubling_none, doubling_plain, room_mark, room_plain}
+use Rattle.print_unit.proofs.StringLaws.{character_fits, doubling_end, doubling_more, doubling_none}
 use Rattle.print_unit.proofs.put_doubled.Goals as goal
 
-pub loop-i-init : goal.loop-i-init
-loop-i-init c = search (rules, doubling_none)
+pub loop-b-init : goal.loop-b-init
+loop-b-init g c = let a = c.args in doubling_none g.S.Sink.way a.out.now a.content.now a.at
 
-pub bounds-out-n : goal.bounds-out-n
-bounds-out-n c = omega (arith, room_mark c.loop-i.invariant c.loop-i-test.true c.if-content-i-eq-MARK.true c.requires)
+pub put_character-at-requires : goal.put_character-at-requires
+put_character-at-requires g c = search (rules, character_fits)
 
-pub bounds-out-n-then-content-i-eq-MARK : goal.bounds-out-n-then-content-i-eq-MARK
-bounds-out-n-then-content-i-eq-MARK c = simp length-set (search (rules, room_mark))
-
-pub loop-i-preserved-then-content-i-eq-MARK : goal.loop-i-preserved-then-content-i-eq-MARK
-loop-i-preserved-then-content-i-eq-MARK c = search (rules, doubling_mark)
-
-pub bounds-out-n-else-content-i-eq-MARK : goal.bounds-out-n-else-content-i-eq-MARK
-bounds-out-n-else-content-i-eq-MARK c = search (rules, room_plain)
-
-pub loop-i-preserved : goal.loop-i-preserved
-loop-i-preserved c = search (rules, doubling_plain)
+pub loop-b-preserved : goal.loop-b-preserved
+loop-b-preserved g c = search (rules, doubling_more)
 
 pub returns : goal.returns
-returns c = search (rules, counted_all, doubling_end)
+returns g c = search (rules, doubling_end)

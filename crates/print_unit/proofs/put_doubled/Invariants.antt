@@ -1,11 +1,6 @@
--- What is stored and what the rest will store are the whole text.
-use Prim.Native.Nat.{◌-◌}
-use lib.ListN.{length}
+-- What is put and what the rest will put are the whole text.
 use Rattle.print_unit.proofs.StringLaws.{Doubling}
 use Rattle.print_unit.proofs.put_doubled.Given as goal
 
-abbrev pub invariant-loop-i : goal.invariant-loop-i
-invariant-loop-i l = Doubling l.initial.out l.content l.out l.i l.n
-
-abbrev pub decreases-loop-i : goal.decreases-loop-i
-decreases-loop-i l = length l.content - l.i
+abbrev pub invariant-loop-b : goal.invariant-loop-b
+invariant-loop-b g l = Doubling g.S.Sink.way l.initial.out l.content l.initial.at l.out l.at l.b-index

@@ -1,28 +1,24 @@
--- Two stores from the start on are the prefix; with no prefix nothing is stored.
+-- The prefix is the letter and the mark; with no prefix nothing is put.
 use borrow.Author.Tests.{eq-eqb, ne_eqb}
-use lib.ListN.{length-set}
-use lib.Seq.{sets-eq}
 use mathlib.Core.List.{[], ◌∷◌}
-use mathlib.Core.Path.{refl}
-use native.Mathlib.Omega.{arith}
 use Rattle.rules.specs.Characters.{byte}
+use Rattle.print_unit.proofs.ChainLaws.{both_put, fits_first, fits_next, nothing_put}
 use Rattle.print_unit.specs.Texts.{prefix_of}
 use Rattle.print_unit.proofs.put_prefix.Goals as goal
 
 pub returns-then-base-letter : goal.returns-then-base-letter
 unfolding prefix_of
-returns-then-base-letter c = rw (eq-eqb _ _ c.if-base-letter.true) (refl, refl)
+returns-then-base-letter g c = let a = c.args in rw (eq-eqb _ _ c.if-base-letter.true) (nothing_put g.S.Sink.way a.out.now a.at)
 
-pub bounds-out-0 : goal.bounds-out-0
+pub put_u8-mark-requires : goal.put_u8-mark-requires
 unfolding prefix_of
-bounds-out-0 c = let h = rw (ne_eqb _ _ c.if-base-letter.false) at c.requires in omega arith
+put_u8-mark-requires g c = let a = c.args in fits_first (a.letter ∷ []) (byte "'" ∷ []) (rw (ne_eqb _ _ c.if-base-letter.false) at c.requires)
 
-pub bounds-out-1 : goal.bounds-out-1
+pub put_u8-requires : goal.put_u8-requires
 unfolding prefix_of
-bounds-out-1 c = simp length-set (rw (ne_eqb _ _ c.if-base-letter.false) at c.requires)
+put_u8-requires g c =
+    let a = c.args in fits_next (a.letter ∷ []) (byte "'" ∷ []) (rw (ne_eqb _ _ c.if-base-letter.false) at c.requires) c.put_u8-mark.ensures
 
 pub returns : goal.returns
 unfolding prefix_of
-returns c =
-    let a = c.args in let n = ne_eqb _ _ c.if-base-letter.false in
-    rw n (refl, sets-eq (a.letter ∷ byte "'" ∷ []) a.out.now 0 (rw n at c.requires))
+returns g c = let a = c.args in rw (ne_eqb _ _ c.if-base-letter.false) (both_put (a.letter ∷ []) (byte "'" ∷ []) c.put_u8-mark.ensures c.put_u8.ensures)

@@ -1,29 +1,22 @@
--- Mark, doubled content and mark are written one behind the other, and there is room for the content and both marks.
-use borrow.Author.Rules.{rules}
-use native.Mathlib.Omega.{arith}
-use Rattle.print_unit.proofs.StringLaws.{string_fits, string_put}
+-- Mark, doubled content and mark are put one behind the other.
+use mathlib.Core.List.{[], ◌∷◌}
+use Rattle.rules.specs.Characters.{byte}
+use Rattle.print_unit.proofs.ChainLaws.{three_first, three_put, three_second, three_third}
+use Rattle.print_unit.specs.Strings.{doubled_at, string_text}
 use Rattle.print_unit.proofs.put_string.Goals as goal
 
+pub put_u8-inside-requires : goal.put_u8-inside-requires
+unfolding string_text
+put_u8-inside-requires g c = three_first (byte "\"" ∷ []) (doubled_at c.args.content.now 0) (byte "\"" ∷ []) c.requires
+
+pub put_doubled-end-requires : goal.put_doubled-end-requires
+unfolding string_text
+put_doubled-end-requires g c = three_second (byte "\"" ∷ []) (doubled_at c.args.content.now 0) (byte "\"" ∷ []) c.requires c.put_u8-inside.ensures
+
 pub put_u8-requires : goal.put_u8-requires
-put_u8-requires c = omega (arith, string_fits c.args.content.now c.requires)
-
-pub slice_bounds-put_doubled-count : goal.slice_bounds-put_doubled-count
-slice_bounds-put_doubled-count c = omega (arith, string_fits c.args.content.now c.requires)
-
-pub put_doubled-n-requires : goal.put_doubled-n-requires
-put_doubled-n-requires c = search (rules, string_fits c.args.content.now c.requires)
-
-pub overflow_add-n : goal.overflow_add-n
-overflow_add-n c = omega (arith, string_fits c.args.content.now c.requires)
-
-pub slice_bounds-put_u8-count : goal.slice_bounds-put_u8-count
-slice_bounds-put_u8-count c = omega (arith, string_fits c.args.content.now c.requires)
-
-pub put_u8-requires-2 : goal.put_u8-requires-2
-put_u8-requires-2 c = search (rules, string_fits c.args.content.now c.requires, c.put_doubled-n.ensures.0)
-
-pub overflow_add-result : goal.overflow_add-result
-overflow_add-result c = omega (arith, string_fits c.args.content.now c.requires)
+unfolding string_text
+put_u8-requires g c = three_third (byte "\"" ∷ []) (doubled_at c.args.content.now 0) (byte "\"" ∷ []) c.requires c.put_u8-inside.ensures c.put_doubled-end.ensures
 
 pub returns : goal.returns
-returns c = let a = c.args in string_put a.content.now a.out.now c.put_u8.ensures c.put_doubled-n.ensures c.put_u8-2.ensures
+unfolding string_text
+returns g c = three_put (byte "\"" ∷ []) (doubled_at c.args.content.now 0) (byte "\"" ∷ []) c.requires c.put_u8-inside.ensures c.put_doubled-end.ensures c.put_u8.ensures

@@ -1,29 +1,23 @@
--- Prefix and digits are written one behind the other, and without fraction digits are the numeral; there is room for the digits too.
-use borrow.Author.Rules.{rules}
-use mathlib.Core.Path.{refl}
-use native.Mathlib.Omega.{arith}
+-- Prefix and digits are put one behind the other.
 use Rattle.digits.specs.Digits.{whole}
-use Rattle.print_unit.proofs.ChainLaws.{both_put}
-use Rattle.print_unit.proofs.TextLaws.{is_whole, numeral_len, prefix_room, size_from, size_to, whole_fits}
-use Rattle.print_unit.specs.Texts.{numeral_text, prefix_of}
+use Rattle.print_unit.proofs.ChainLaws.{both_put, fits_first, fits_next}
+use Rattle.print_unit.proofs.TextLaws.{size_from, size_to, whole_text_is}
+use Rattle.print_unit.specs.Texts.{prefix_of}
 use Rattle.print_unit.proofs.put_whole_text.Goals as goal
 
 pub put_prefix-start-requires : goal.put_prefix-start-requires
-put_prefix-start-requires c = search (rules, prefix_room)
-
-pub slice_bounds-put_whole-count : goal.slice_bounds-put_whole-count
-slice_bounds-put_whole-count c = let a = c.args in omega (arith, numeral_len a.base a.letter 0 a.value)
+put_prefix-start-requires g c =
+    let a = c.args in let q = c.size-size.ensures in
+    fits_first (prefix_of a.base a.letter) (whole c.size-size.result a.value) (rw (whole_text_is a.base a.letter a.value q) at c.requires)
 
 pub put_whole-requires : goal.put_whole-requires
-put_whole-requires c =
-    let a = c.args in search (rules, size_from, size_to, whole_fits a.base a.letter a.value c.put_prefix-start.ensures.0 c.size.ensures c.requires)
-
-pub overflow_add-result : goal.overflow_add-result
-overflow_add-result c = let a = c.args in omega (arith, whole_fits a.base a.letter a.value c.put_prefix-start.ensures.0 c.size.ensures c.requires)
+put_whole-requires g c =
+    let a = c.args in let q = c.size-size.ensures in (
+      size_from a.letter 0 a.value q,
+      size_to a.letter 0 a.value q,
+      fits_next (prefix_of a.base a.letter) (whole c.size-size.result a.value) (rw (whole_text_is a.base a.letter a.value q) at c.requires) c.put_prefix-start.ensures,
+    )
 
 pub returns : goal.returns
-unfolding numeral_text
-returns c =
-    let a = c.args in
-    rw (is_whole a.letter 0 a.value c.size.ensures refl)
-    (both_put (prefix_of a.base a.letter) (whole c.size.result a.value) a.out.now c.put_prefix-start.ensures c.put_whole.ensures)
+returns g c =
+    let a = c.args in rw (whole_text_is a.base a.letter a.value c.size-size.ensures) (both_put (prefix_of a.base a.letter) (whole c.size-size.result a.value) c.put_prefix-start.ensures c.put_whole.ensures)

@@ -3,10 +3,10 @@ use borrow.Author.Tests.{eq-eqb, ne_eqb}
 use Rattle.print_value.specs.Values.{head_length}
 use Rattle.print_value.proofs.head_len.Goals as goal
 
-pub returns-then-tag-eq-RANGE : goal.returns-then-tag-eq-RANGE
+pub returns-then-tag : goal.returns-then-tag
 unfolding head_length
-returns-then-tag-eq-RANGE c = rw (eq-eqb _ _ c.if-tag-eq-RANGE.true)
+returns-then-tag c = rw (eq-eqb _ _ c.if-tag.true)
 
 pub returns : goal.returns
 unfolding head_length
-returns c = rw (ne_eqb _ _ c.if-tag-eq-RANGE.false)
+returns c = rw (ne_eqb _ _ c.if-tag.false)

@@ -1,19 +1,15 @@
--- What stands before the argument and its units are written one behind the other.
-use borrow.Author.Rules.{rules}
-use native.Mathlib.Omega.{arith}
-use Rattle.laws.specs.Over.{length_part}
-use Rattle.print_value.proofs.EndLaws.{joint_size_lem}
-use Rattle.print_value.proofs.TailLaws.{argument_put, argument_units}
+-- What stands before the argument and its units are put one behind the other.
+use Rattle.print_unit.proofs.ChainLaws.{both_put, fits_first, fits_next}
+use Rattle.print_value.specs.Joints.{joint_text}
+use Rattle.print_value.specs.Values.{units_text}
 use Rattle.print_value.proofs.put_argument.Goals as goal
 
-pub put_joint-requires : goal.put_joint-requires
-put_joint-requires c = omega (arith, c.requires.fits, joint_size_lem c.args.joint c.requires.few)
+pub put_joint-units-requires : goal.put_joint-units-requires
+put_joint-units-requires g c = let f = c.requires in fits_first (joint_text c.args.joint) (units_text f.b f.i f.l) f.fits
 
-pub put_units-units-requires : goal.put_units-units-requires
-put_units-units-requires c = argument_units c.requires (omega (arith, length_part c.put_joint.new.out c.args.joint))
-
-pub overflow_add-result : goal.overflow_add-result
-overflow_add-result c = let f = c.requires in omega (arith, f.fits, (c.put_units-units.ensures f.b f.i f.l f.rest f.has).0.bytes)
+pub put_units-requires : goal.put_units-requires
+put_units-requires g c =
+    let f = c.requires in record { b = f.b; i = f.i; l = f.l; rest = f.rest; has = f.has; fits = fits_next (joint_text c.args.joint) (units_text f.b f.i f.l) f.fits c.put_joint-units.ensures }
 
 pub returns : goal.returns
-returns c = search (rules, argument_put)
+returns g c = λ b i l rest h. let p = c.put_units.ensures b i l rest h in (p.0, both_put (joint_text c.args.joint) (units_text b i l) c.put_joint-units.ensures p.1)

@@ -1,30 +1,32 @@
--- `++` and the increment are written one behind the other.
-use borrow.Author.Rules.{rules}
-use borrow.Author.Tests.{eq-eqb}
-use mathlib.Core.Path.{refl}
-use native.Mathlib.Omega.{arith}
-use Rattle.print_value.proofs.EndLaws.{increment_fits, increment_put}
-use Rattle.print_value.specs.Values.{increment_text}
+-- `++` and the increment are put one behind the other; nothing is put for 1.
+use mathlib.Core.List.{[], ◌∷◌}
+use Rattle.rules.specs.Characters.{byte}
+use Rattle.print_unit.proofs.ChainLaws.{nothing_put, three_first, three_put, three_second, three_third}
+use Rattle.print_unit.specs.Texts.{numeral_text}
+use Rattle.print_value.proofs.EndLaws.{increment_is, increment_none}
 use Rattle.print_value.proofs.put_increment.Goals as goal
 
 pub returns-then-increment-eq1 : goal.returns-then-increment-eq1
-unfolding increment_text
-returns-then-increment-eq1 c = rw (eq-eqb _ _ c.if-increment-eq1.true) (refl, refl)
+returns-then-increment-eq1 g c = let a = c.args in rw (increment_none a.base a.letter a.increment c.if-increment-eq1.true) (nothing_put g.S.Sink.way a.out.now a.at)
 
--- there is room for both
+pub put_u8-second-requires : goal.put_u8-second-requires
+put_u8-second-requires g c =
+    let a = c.args in
+    three_first (byte "+" ∷ []) (byte "+" ∷ []) (numeral_text a.base a.letter 0 a.increment) (rw (increment_is a.base a.letter a.increment c.if-increment-eq1.false) at c.requires)
 
-pub put_plus-requires : goal.put_plus-requires
-put_plus-requires c = let a = c.args in omega (arith, increment_fits a.base a.letter a.increment c.if-increment-eq1.false c.requires)
-
-pub slice_bounds-put_whole_text-count : goal.slice_bounds-put_whole_text-count
-slice_bounds-put_whole_text-count c = let a = c.args in omega (arith, increment_fits a.base a.letter a.increment c.if-increment-eq1.false c.requires)
+pub put_u8-number-requires : goal.put_u8-number-requires
+put_u8-number-requires g c =
+    let a = c.args in
+    three_second (byte "+" ∷ []) (byte "+" ∷ []) (numeral_text a.base a.letter 0 a.increment) (rw (increment_is a.base a.letter a.increment c.if-increment-eq1.false) at c.requires)
+    c.put_u8-second.ensures
 
 pub put_whole_text-requires : goal.put_whole_text-requires
-put_whole_text-requires c = let a = c.args in search (rules, increment_fits a.base a.letter a.increment c.if-increment-eq1.false c.requires)
-
-pub overflow_add-result : goal.overflow_add-result
-overflow_add-result c = let a = c.args in omega (arith, increment_fits a.base a.letter a.increment c.if-increment-eq1.false c.requires)
+put_whole_text-requires g c =
+    let a = c.args in
+    three_third (byte "+" ∷ []) (byte "+" ∷ []) (numeral_text a.base a.letter 0 a.increment) (rw (increment_is a.base a.letter a.increment c.if-increment-eq1.false) at c.requires)
+    c.put_u8-second.ensures c.put_u8-number.ensures
 
 pub returns : goal.returns
-returns c =
-    let a = c.args in increment_put a.base a.letter a.increment a.out.now c.if-increment-eq1.false c.put_plus.ensures c.put_whole_text.ensures
+returns g c =
+    let a = c.args in let e = increment_is a.base a.letter a.increment c.if-increment-eq1.false in
+    rw e (three_put (byte "+" ∷ []) (byte "+" ∷ []) (numeral_text a.base a.letter 0 a.increment) (rw e at c.requires) c.put_u8-second.ensures c.put_u8-number.ensures c.put_whole_text.ensures)

@@ -1,20 +1,17 @@
--- The number of characters tells which they are, and each is stored in its place.
-use borrow.Author.Rules.{rules}
-use lib.ListN.{length-set}
-use Rattle.print_value.proofs.EndLaws.{full_put, full_room, none_put, short_put, short_room}
+-- The characters of the short form are put one behind the other.
+use mathlib.Core.List.{[], ◌∷◌}
+use Rattle.rules.specs.Characters.{byte}
+use Rattle.print_unit.proofs.ChainLaws.{both_put, fits_first, fits_next, nothing_put}
 use Rattle.print_value.proofs.put_joint.Goals as goal
 
-pub returns-then-joint-eq0 : goal.returns-then-joint-eq0
-returns-then-joint-eq0 c = search (rules, none_put)
+pub returns-in-Start : goal.returns-in-Start
+returns-in-Start g c = rw c.in-Start.is (nothing_put g.S.Sink.way c.args.out.now c.args.at)
 
-pub bounds-out-0 : goal.bounds-out-0
-bounds-out-0 c = search (rules, full_room)
+pub put_u8-dash-requires : goal.put_u8-dash-requires
+put_u8-dash-requires g c = fits_first (byte "&" ∷ []) (byte "-" ∷ []) (rw c.in-Short.is at c.requires)
 
-pub bounds-out-1 : goal.bounds-out-1
-bounds-out-1 c = simp length-set (search (rules, short_room))
+pub put_u8-requires-in-Short : goal.put_u8-requires-in-Short
+put_u8-requires-in-Short g c = fits_next (byte "&" ∷ []) (byte "-" ∷ []) (rw c.in-Short.is at c.requires) c.put_u8-dash.ensures
 
-pub returns-then-joint-eq-SHORT : goal.returns-then-joint-eq-SHORT
-returns-then-joint-eq-SHORT c = search (rules, short_put)
-
-pub returns-else-joint-eq-SHORT : goal.returns-else-joint-eq-SHORT
-returns-else-joint-eq-SHORT c = search (rules, full_put)
+pub returns-in-Short : goal.returns-in-Short
+returns-in-Short g c = rw c.in-Short.is (both_put (byte "&" ∷ []) (byte "-" ∷ []) c.put_u8-dash.ensures c.put_u8-in-Short.ensures)

@@ -1,31 +1,28 @@
--- Separator, upper end and increment are written one behind the other, and there is room for all three.
-use borrow.Author.Rules.{rules}
-use native.Mathlib.Omega.{arith}
-use Rattle.print_value.proofs.EndLaws.{range_fits, range_put}
+-- Separator, upper end and increment are put one behind the other.
+use Rattle.print_unit.proofs.ChainLaws.{three_first, three_put, three_second, three_third}
+use Rattle.print_unit.specs.Texts.{numeral_text}
+use Rattle.print_value.specs.Values.{increment_text, range_end, through_text}
 use Rattle.print_value.proofs.put_range_end.Goals as goal
 
 pub put_through-p-requires : goal.put_through-p-requires
-put_through-p-requires c = let a = c.args in omega (arith, range_fits a.base a.letter a.compound a.upper a.increment c.requires)
+unfolding range_end
+put_through-p-requires g c =
+    let a = c.args in three_first (through_text a.compound) (numeral_text a.base a.letter 0 a.upper) (increment_text a.base a.letter a.increment) c.requires
 
-pub slice_bounds-put_whole_text-count : goal.slice_bounds-put_whole_text-count
-slice_bounds-put_whole_text-count c = let a = c.args in omega (arith, range_fits a.base a.letter a.compound a.upper a.increment c.requires)
-
-pub put_whole_text-requires : goal.put_whole_text-requires
-put_whole_text-requires c = let a = c.args in search (rules, range_fits a.base a.letter a.compound a.upper a.increment c.requires)
-
-pub overflow_add-q : goal.overflow_add-q
-overflow_add-q c = let a = c.args in omega (arith, range_fits a.base a.letter a.compound a.upper a.increment c.requires)
-
-pub slice_bounds-put_increment-count : goal.slice_bounds-put_increment-count
-slice_bounds-put_increment-count c = let a = c.args in omega (arith, range_fits a.base a.letter a.compound a.upper a.increment c.requires)
+pub put_whole_text-q-requires : goal.put_whole_text-q-requires
+unfolding range_end
+put_whole_text-q-requires g c =
+    let a = c.args in three_second (through_text a.compound) (numeral_text a.base a.letter 0 a.upper) (increment_text a.base a.letter a.increment) c.requires c.put_through-p.ensures
 
 pub put_increment-requires : goal.put_increment-requires
-put_increment-requires c = let a = c.args in search (rules, range_fits a.base a.letter a.compound a.upper a.increment c.requires)
-
-pub overflow_add-result : goal.overflow_add-result
-overflow_add-result c = let a = c.args in omega (arith, range_fits a.base a.letter a.compound a.upper a.increment c.requires)
+unfolding range_end
+put_increment-requires g c =
+    let a = c.args in
+    three_third (through_text a.compound) (numeral_text a.base a.letter 0 a.upper) (increment_text a.base a.letter a.increment) c.requires c.put_through-p.ensures c.put_whole_text-q.ensures
 
 pub returns : goal.returns
-returns c =
+unfolding range_end
+returns g c =
     let a = c.args in
-    range_put a.base a.letter a.compound a.upper a.increment a.out.now c.put_through-p.ensures c.put_whole_text.ensures c.put_increment.ensures
+    three_put (through_text a.compound) (numeral_text a.base a.letter 0 a.upper) (increment_text a.base a.letter a.increment) c.requires c.put_through-p.ensures c.put_whole_text-q.ensures
+    c.put_increment.ensures

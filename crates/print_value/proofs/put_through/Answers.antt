@@ -1,24 +1,23 @@
--- Two stores from the start on, and a third one behind a compound argument, are the text.
-use lib.ListN.{length-set}
-use lib.Seq.{sets-eq}
+-- Two characters, and a third one behind a compound argument, are the text.
 use mathlib.Core.List.{[], ◌∷◌}
-use mathlib.Core.Path.{refl}
-use native.Mathlib.Omega.{arith}
 use Rattle.rules.specs.Characters.{byte}
-use Rattle.print_value.proofs.EndLaws.{through_least}
+use Rattle.print_unit.proofs.ChainLaws.{both_put, fits_first, fits_next}
+use Rattle.print_value.proofs.EndLaws.{through_first}
 use Rattle.print_value.proofs.put_through.Goals as goal
 
-pub bounds-out-0 : goal.bounds-out-0
-bounds-out-0 c = omega (arith, c.requires, through_least c.args.compound)
+pub put_u8-second-requires : goal.put_u8-second-requires
+put_u8-second-requires g c = fits_first (byte "&" ∷ []) (byte "&" ∷ []) (through_first c.args.compound c.requires)
 
-pub bounds-out-1 : goal.bounds-out-1
-bounds-out-1 c = simp length-set (omega (arith, c.requires, through_least c.args.compound))
+pub put_u8-end-requires : goal.put_u8-end-requires
+put_u8-end-requires g c = fits_next (byte "&" ∷ []) (byte "&" ∷ []) (through_first c.args.compound c.requires) c.put_u8-second.ensures
 
-pub bounds-out-2 : goal.bounds-out-2
-bounds-out-2 c = let h = rw c.if-compound.true at c.requires in simp length-set (omega arith)
+pub put_u8-requires : goal.put_u8-requires
+put_u8-requires g c =
+    fits_next (byte "&" ∷ byte "&" ∷ []) (byte "-" ∷ []) (rw c.if-compound.true at c.requires) (both_put (byte "&" ∷ []) (byte "&" ∷ []) c.put_u8-second.ensures c.put_u8-end.ensures)
 
 pub returns-then-compound : goal.returns-then-compound
-returns-then-compound c = let h = rw c.if-compound.true at c.requires in rw c.if-compound.true (refl, sets-eq (byte "&" ∷ byte "&" ∷ byte "-" ∷ []) c.args.out.now 0 h)
+returns-then-compound g c =
+    rw c.if-compound.true (both_put (byte "&" ∷ byte "&" ∷ []) (byte "-" ∷ []) (both_put (byte "&" ∷ []) (byte "&" ∷ []) c.put_u8-second.ensures c.put_u8-end.ensures) c.put_u8.ensures)
 
 pub returns : goal.returns
-returns c = let h = rw c.if-compound.false at c.requires in rw c.if-compound.false (refl, sets-eq (byte "&" ∷ byte "&" ∷ []) c.args.out.now 0 h)
+returns g c = rw c.if-compound.false (both_put (byte "&" ∷ []) (byte "&" ∷ []) c.put_u8-second.ensures c.put_u8-end.ensures)

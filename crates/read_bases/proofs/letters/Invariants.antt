@@ -2,12 +2,9 @@
 use Rattle.token_table.specs.Table.{verdict}
 use Rattle.rules.specs.Reading.{read_letters}
 use mathlib.Core.Path.{◌≡◌}
-use lib.ListN.{length, drop}
-use Prim.Native.Nat.{◌-◌, ◌≤◌}
+use lib.ListN.{drop}
+use Prim.Native.Nat.{◌≤◌}
 use Rattle.read_bases.proofs.letters.Given as goal
 
 abbrev pub invariant-loop-i : goal.invariant-loop-i
 invariant-loop-i l = (verdict (read_letters 0 l.bases) ≡ verdict (read_letters l.i (drop l.i l.bases))) × (l.i ≤ 32)
-
-abbrev pub decreases-loop-i : goal.decreases-loop-i
-decreases-loop-i l = length l.bases - l.i

@@ -5,7 +5,7 @@ use Prim.Native.Nat.{◌-◌}
 use Rattle.read_elements.proofs.all_elements.Given as goal
 
 abbrev pub invariant-loop-n : goal.invariant-loop-n
-invariant-loop-n l = Walking (joins_in l.base l.contents l.toks) l.leads l.n l.c l.args
+invariant-loop-n l = Walking (joins_in l.base l.contents l.toks) l.leads l.n l.count l.args
 
 abbrev pub decreases-loop-n : goal.decreases-loop-n
 decreases-loop-n l = count l.toks - l.n

@@ -17,4 +17,4 @@ pub loop-k-preserved : goal.loop-k-preserved
 loop-k-preserved c = search (rules, dashes_more)
 
 pub returns : goal.returns
-returns c = search (rules, dashes_end)
+returns c = dashes_end _ _ _ c.sep_kind.result c.loop-k.invariant c.sep_kind.ensures c.eq.ensures c.loop-k-test.false

@@ -1,16 +1,15 @@
 -- `sep_kind` meets its contract: its tests are those of the definition.
-use borrow.Author.Tests.{ne_eqb, lt-ltb, le-ltb}
-use Rattle.read_joins.specs.Joins.{sep_kind}
+use borrow.Author.Rules.{rules}
+use Rattle.read_joins.proofs.GroupLaws.{kind_inside, kind_first, kind_past}
 use Rattle.read_joins.proofs.sep_kind.Goals as goal
-
-pub returns-then-n-eq0 : goal.returns-then-n-eq0
-unfolding sep_kind
-returns-then-n-eq0 c = rw c.if-n-eq0.true
+use Rattle.read_joins.proofs.sep_kind.Goals.{else-n-gt0-via-then-n-gt0+else-n-count, else-n-gt0-via-else-n-gt0}
 
 pub returns-then-n-count : goal.returns-then-n-count
-unfolding sep_kind
-returns-then-n-count c = rw (ne_eqb _ _ c.if-n-eq0.false, ← c.count.ensures, lt-ltb _ _ c.if-n-count.true, ← c.kind.ensures) c.join_kind.ensures
+returns-then-n-count c = search (rules, kind_inside)
 
-pub returns : goal.returns
-unfolding sep_kind
-returns c = rw (ne_eqb _ _ c.if-n-eq0.false, ← c.count.ensures, le-ltb _ _ c.if-n-count.false)
+pub returns-else-n-gt0 : goal.returns-else-n-gt0
+returns-else-n-gt0 c =
+    elim c.else-n-gt0.branch [
+      | else-n-gt0-via-then-n-gt0+else-n-count w ↦ kind_past _ _ w.count.ensures w.if-n-count.false
+      | else-n-gt0-via-else-n-gt0 w ↦ kind_first _ _ w.if-n-gt0.false
+    ]

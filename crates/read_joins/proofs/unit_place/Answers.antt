@@ -7,6 +7,6 @@ pub returns-then-n-count : goal.returns-then-n-count
 unfolding unit_place
 returns-then-n-count c = rw (← c.count.ensures, lt-ltb _ _ c.if-n-count.true) c.place.ensures
 
-pub returns : goal.returns
+pub returns-else-n-count : goal.returns-else-n-count
 unfolding unit_place
-returns c = rw (← c.count.ensures, le-ltb _ _ c.if-n-count.false)
+returns-else-n-count c = rw (← c.count.ensures, le-ltb _ _ c.if-n-count.false)

@@ -6,5 +6,5 @@ use Rattle.read_names.proofs.is_twice.Goals as goal
 pub returns-then-has : goal.returns-then-has
 returns-then-has c = search (rules, tell_looked)
 
-pub returns : goal.returns
-returns c = search (rules, tell_new)
+pub returns-else-has : goal.returns-else-has
+returns-else-has c = search (rules, tell_new)

@@ -9,8 +9,8 @@ returns-then-b-i c = search (rules, alike_longer)
 pub loop-i-preserved : goal.loop-i-preserved
 loop-i-preserved c = search (rules, alike_more)
 
-pub returns-else-same_piece : goal.returns-else-same_piece
-returns-else-same_piece c = search (rules, alike_stop)
+pub returns-then-not-same_piece : goal.returns-then-not-same_piece
+returns-then-not-same_piece c = search (rules, alike_stop)
 
 pub returns : goal.returns
 returns c = search (rules, alike_end)

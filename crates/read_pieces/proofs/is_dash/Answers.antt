@@ -3,8 +3,8 @@ use Rattle.read_pieces.proofs.PieceLaws.{dash_none, dash_some}
 use borrow.Author.Rules.{rules}
 use Rattle.read_pieces.proofs.is_dash.Goals as goal
 
-pub returns-then-left-eq0 : goal.returns-then-left-eq0
-returns-then-left-eq0 c = search (rules, dash_none)
+pub returns-then-left-gt0 : goal.returns-then-left-gt0
+returns-then-left-gt0 c = search (rules, dash_some)
 
-pub returns : goal.returns
-returns c = search (rules, dash_some)
+pub returns-else-left-gt0 : goal.returns-else-left-gt0
+returns-else-left-gt0 c = search (rules, dash_none)

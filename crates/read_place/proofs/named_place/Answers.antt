@@ -1,18 +1,16 @@
 -- `named_place` meets its contract: the name is what stands before the `=`, and the value what stands behind it.
-use Rattle.read_place.proofs.PlaceLaws.{named_wrong, named_twice, named_fine}
 use borrow.Author.Rules.{rules}
-use native.Mathlib.Nat.{le_of_lt}
-use Rattle.token_table.proofs.FindLaws.{taken}
+use Rattle.std.proofs.lemmas.Result.{err_from_is_err_and}
+use Rattle.read_place.proofs.PlaceLaws.{named_wrong, named_twice, named_fine}
 use Rattle.read_place.proofs.named_place.Goals as goal
 
-pub slice_bounds-name-end : goal.slice_bounds-name-end
-slice_bounds-name-end c = search (rules, taken, le_of_lt)
+pub returns-in_err-pieces : goal.returns-in_err-pieces
+returns-in_err-pieces c ns w =
+    let p = err_from_is_err_and c.from_residual.result c.from_residual.ensures.1 in
+    rw (p.1, p.2) (search (rules, named_wrong, c.in_err-pieces.ensures))
 
 pub returns-then-is_twice : goal.returns-then-is_twice
-returns-then-is_twice c = search (rules, named_twice)
+returns-then-is_twice c ns w = search (rules, named_twice, c.in_ok-pieces.ensures)
 
-pub returns-in-Refused : goal.returns-in-Refused
-returns-in-Refused c = search (rules, named_wrong)
-
-pub returns-else-is_twice : goal.returns-else-is_twice
-returns-else-is_twice c = search (rules, named_fine)
+pub returns : goal.returns
+returns c ns w = search (rules, named_fine, c.in_ok-pieces.ensures)

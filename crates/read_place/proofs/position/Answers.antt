@@ -3,8 +3,8 @@ use borrow.Author.Rules.{rules}
 use Rattle.read_place.proofs.PlaceLaws.{position_none, position_some}
 use Rattle.read_place.proofs.position.Goals as goal
 
-pub returns-then-toks-eq0 : goal.returns-then-toks-eq0
-returns-then-toks-eq0 c = search (rules, position_none)
+pub returns-then-is_empty : goal.returns-then-is_empty
+returns-then-is_empty c = search (rules, position_none)
 
 pub returns : goal.returns
 returns c = search (rules, position_some)

@@ -20,5 +20,5 @@ overflow_add-result c =
 pub returns-then-at-rec : goal.returns-then-at-rec
 returns-then-at-rec c = search (rules, after_some)
 
-pub returns : goal.returns
-returns c = search (rules, after_none)
+pub returns-else-at-rec : goal.returns-else-at-rec
+returns-else-at-rec c = search (rules, after_none)

@@ -9,7 +9,7 @@ use Rattle.record_walk.proofs.head_tag.Goals as goal
 pub returns-then-rec-at : goal.returns-then-rec-at
 returns-then-rec-at c = let a = c.args in sym (head_none (drop a.at a.rec.now) (omega (arith, c.if-rec-at.true, length-drop a.at a.rec.now)))
 
-pub returns : goal.returns
-returns c =
+pub returns-else-rec-at : goal.returns-else-rec-at
+returns-else-rec-at c =
     let a = c.args in
     sym (head_some (drop a.at a.rec.now) (omega (arith, c.if-rec-at.false, length-drop a.at a.rec.now)) ∙ tag_there a.rec.now a.at)

@@ -15,5 +15,5 @@ loop-end-preserved c = search (rules, running_more)
 pub returns-else-is_between : goal.returns-else-is_between
 returns-else-is_between c = search (rules, running_stop)
 
-pub returns : goal.returns
-returns c = search (rules, running_over)
+pub returns-after-loop-end : goal.returns-after-loop-end
+returns-after-loop-end c = search (rules, running_over)

@@ -6,11 +6,14 @@ use Rattle.scan.proofs.begin.Goals as goal
 pub loop-i-init : goal.loop-i-init
 loop-i-init c = search (rules, gap_none)
 
-pub loop-i-preserved-then-k-eq-EFFECTOR : goal.loop-i-preserved-then-k-eq-EFFECTOR
-loop-i-preserved-then-k-eq-EFFECTOR c = search (rules, gap_skip)
+pub loop-i-preserved-in-Effector : goal.loop-i-preserved-in-Effector
+loop-i-preserved-in-Effector c = search (rules, gap_skip)
 
-pub returns-in_default : goal.returns-in_default
-returns-in_default c = search (rules, gap_four)
+pub returns-then-byte-ne42 : goal.returns-then-byte-ne42
+returns-then-byte-ne42 c = search (rules, gap_five)
+
+pub returns-in_default-comment : goal.returns-in_default-comment
+returns-in_default-comment c = search (rules, gap_four)
 
 pub loop-i-smaller : goal.loop-i-smaller
 loop-i-smaller c = search (rules, gap_less)
@@ -18,11 +21,8 @@ loop-i-smaller c = search (rules, gap_less)
 pub loop-i-preserved : goal.loop-i-preserved
 loop-i-preserved c = search (rules, gap_over)
 
-pub returns-else-byte-eq42 : goal.returns-else-byte-eq42
-returns-else-byte-eq42 c = search (rules, gap_five)
-
-pub returns-else-k-eq-SLASH : goal.returns-else-k-eq-SLASH
-returns-else-k-eq-SLASH c = search (rules, gap_start)
+pub returns-in_default : goal.returns-in_default
+returns-in_default c = search (rules, gap_start)
 
 pub returns : goal.returns
 returns c = search (rules, gap_end)

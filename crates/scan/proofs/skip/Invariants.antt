@@ -1,11 +1,6 @@
 -- `skip` meets its contract: each turn passes over a format effector.
-use Prim.Native.Nat.{◌-◌}
-use lib.ListN.{length}
 use Rattle.scan.proofs.SkipLaws.{Skipping}
 use Rattle.scan.proofs.skip.Given as goal
 
 abbrev pub invariant-loop-i : goal.invariant-loop-i
 invariant-loop-i l = Skipping l.text l.from l.i
-
-abbrev pub decreases-loop-i : goal.decreases-loop-i
-decreases-loop-i l = length l.text - l.i

@@ -1,17 +1,15 @@
 -- `string_token` meets its contract: its test of the length is the limit of the rules, and no end is 4.
+use native.Mathlib.Omega.{arith}
 use borrow.Author.Rules.{rules}
-use Rattle.scan.proofs.RunLaws.{next_fits}
+use Rattle.scan.proofs.RunLaws.{refuses}
 use Rattle.scan.proofs.TokenLaws.{string_fine, string_over, string_never}
 use Rattle.scan.proofs.string_token.Goals as goal
 
-pub overflow_add-place : goal.overflow_add-place
-overflow_add-place c = search (rules, next_fits)
+pub returns-in_default : goal.returns-in_default
+returns-in_default c = search (rules, refuses, string_never)
 
-pub returns-then-len-le-MOST_STRING : goal.returns-then-len-le-MOST_STRING
-returns-then-len-le-MOST_STRING c = search (rules, string_fine)
+pub returns-then-len-gt-MOST_STRING : goal.returns-then-len-gt-MOST_STRING
+returns-then-len-gt-MOST_STRING c = refuses _ c.at-then-len-gt-MOST_STRING.ensures (string_over c.args.text.now c.args.place c.requires.1 c.args.out.now _ c.in-Some.ensures c.requires.2 c.string.auto.out (omega arith))
 
-pub returns-else-len-le-MOST_STRING : goal.returns-else-len-le-MOST_STRING
-returns-else-len-le-MOST_STRING c = search (rules, string_over)
-
-pub returns-in-Open : goal.returns-in-Open
-returns-in-Open c = search (rules, string_never)
+pub returns : goal.returns
+returns c = search (rules, string_fine)

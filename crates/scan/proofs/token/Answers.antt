@@ -1,32 +1,41 @@
 -- `token` meets its contract: the class of the first byte says what the automaton begins.
-use native.Mathlib.Omega.{arith}
+use mathlib.Core.Path.{refl}
 use borrow.Author.Rules.{rules}
-use Rattle.scan.proofs.TokenLaws.{starts_word, starts_string, starts_one, starts_other, starts_amp, starts_plus_lem, starts_none}
+use Rattle.scan.proofs.RunLaws.{refuses}
+use Rattle.scan.proofs.TokenLaws.{starts_word, starts_dash, starts_comma, starts_colon, starts_equals, starts_semicolon, starts_string, starts_amp, starts_plus_lem, starts_none}
 use Rattle.scan.proofs.token.Goals as goal
 
-pub word_token-requires : goal.word_token-requires
-word_token-requires c = (search rules, omega arith, omega (arith, c.requires.1.inside), omega (arith, c.requires.2))
+pub returns-in-Word : goal.returns-in-Word
+returns-in-Word c = search (rules, starts_word)
 
-pub returns-then-class-eq-WORD : goal.returns-then-class-eq-WORD
-returns-then-class-eq-WORD c = search (rules, starts_word)
+pub returns-in-Dash : goal.returns-in-Dash
+returns-in-Dash c = search (rules, starts_dash)
+
+pub returns-in-Comma : goal.returns-in-Comma
+returns-in-Comma c = search (rules, starts_comma)
+
+pub returns-in-Colon : goal.returns-in-Colon
+returns-in-Colon c = search (rules, starts_colon)
+
+pub returns-in-Equals : goal.returns-in-Equals
+returns-in-Equals c = search (rules, starts_equals)
+
+pub returns-in-Semicolon : goal.returns-in-Semicolon
+returns-in-Semicolon c = search (rules, starts_semicolon)
 
 pub string_token-requires : goal.string_token-requires
 string_token-requires c = search (rules, starts_string)
 
-pub returns-then-class-eq-OTHER : goal.returns-then-class-eq-OTHER
-returns-then-class-eq-OTHER c = search (rules, starts_other)
-
-pub returns-then-class-gt-EFFECTOR : goal.returns-then-class-gt-EFFECTOR
-returns-then-class-gt-EFFECTOR c = search (rules, starts_one)
-
 pub amp_token-requires : goal.amp_token-requires
 amp_token-requires c = search (rules, starts_amp)
 
-pub returns-then-class-eq-AMPERSAND : goal.returns-then-class-eq-AMPERSAND
-returns-then-class-eq-AMPERSAND c = c.amp_token.ensures c.args.out.now
+pub returns-in-Ampersand : goal.returns-in-Ampersand
+returns-in-Ampersand c = c.amp_token.ensures c.args.out.now
 
 pub plus_token-requires : goal.plus_token-requires
 plus_token-requires c = search (rules, starts_plus_lem)
 
-pub returns : goal.returns
-returns c = search (rules, starts_none)
+pub returns-in_default : goal.returns-in_default
+returns-in_default c =
+    let n = c.in_default in
+    refuses _ c.at.ensures (starts_none c.requires.1 c.args.class refl n.not-Word n.not-Dash n.not-Comma n.not-Colon n.not-Equals n.not-Semicolon n.not-Mark n.not-Ampersand n.not-Plus)

@@ -1,17 +1,14 @@
--- `find` meets its contract: at every turn the tokens from here on have the same first one of the kind as all of them.
-use borrow.Author.Rules.{rules}
-use Rattle.token_table.proofs.FindLaws.{find_end, find_stop, find_more}
-use mathlib.Core.Path.{refl}
+-- `find` meets its contract: `position` finds the first entry of the kind behind `from`, and past the table's end there is none.
+use Rattle.std.proofs.Common.{rules, tests, arith}
+use Rattle.std.proofs.lemmas.Iterator.{YieldsList-from_slice}
+use Rattle.std.proofs.lemmas.Iterator.Search.{position_from_yields_List}
+use Rattle.token_table.proofs.FindLaws.{is_wanted, find_in, find_past}
 use Rattle.token_table.proofs.find.Goals as goal
 
-pub loop-i-init : goal.loop-i-init
-loop-i-init c = refl
-
-pub returns-then-kind-wanted : goal.returns-then-kind-wanted
-returns-then-kind-wanted c = search (rules, find_stop)
-
-pub loop-i-preserved : goal.loop-i-preserved
-loop-i-preserved c = search (rules, find_more)
+pub returns-in_default : goal.returns-in_default
+returns-in_default c = find_past _ _ _ (grind (arith, c.in_default.ensures.lookup))
 
 pub returns : goal.returns
-returns c = search (rules, find_end)
+returns c =
+    let p = position_from_yields_List (is_wanted c.args.wanted) _ _ c.position-stop.result c.position-stop.ensures.ran (YieldsList-from_slice _ c.iter.ensures.rest) (λ x b q k. search (rules, tests)) in
+    find_in c.args.toks.now c.args.from c.args.wanted c.in-Some.rest.now c.in-Some.ensures.lookup.0.2 p c.unwrap_or.ensures

@@ -2,12 +2,12 @@
 use Rattle.token_table.specs.Parts.{capped, words_size, words_in}
 use mathlib.Core.Bool.{true}
 use mathlib.Core.Path.{◌≡◌}
-use lib.ListN.{length, drop}
-use Prim.Native.Nat.{◌+◌, ◌-◌, ◌≤◌}
+use Prim.Native.Nat.{◌+◌, ◌≤◌}
 use Rattle.token_table.proofs.pieces_len.Given as goal
 
-abbrev pub invariant-loop-i : goal.invariant-loop-i
-invariant-loop-i l = (capped (words_size (words_in true l.contents l.toks)) ≡ capped (l.size + words_size (words_in true l.contents (drop l.i l.toks)))) × (l.size ≤ 4294967295)
-
-abbrev pub decreases-loop-i : goal.decreases-loop-i
-decreases-loop-i l = length l.toks - l.i
+abbrev pub invariant-loop-t : goal.invariant-loop-t
+invariant-loop-t l = record {
+  every_other : l.t-iterator.gap ≡ 1;
+  so_far : capped (words_size (words_in true l.contents l.toks)) ≡ capped (l.size + words_size (words_in l.t-iterator.first l.contents l.t-iterator.iter.rest.now));
+  held : l.size ≤ 4294967295;
+}

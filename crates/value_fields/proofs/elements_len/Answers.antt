@@ -2,7 +2,7 @@
 use borrow.Author.Rules.{rules}
 use mathlib.Core.List.{[]}
 use native.Mathlib.Omega.{arith}
-use Rattle.value_fields.proofs.TurnLaws.{last_small, met_front, met_last, met_less}
+use Rattle.value_fields.proofs.TurnLaws.{last_small, met_fine, met_front, met_last, met_less}
 use Rattle.value_fields.proofs.MeasureLaws.{measuring_none, measuring_fits, measuring_more, measuring_end}
 use Rattle.value_fields.proofs.elements_len.Goals as goal
 
@@ -12,8 +12,11 @@ overflow_sub-leads c = omega (arith, c.arg_end-leads.ensures 0 [])
 pub loop-n-init : goal.loop-n-init
 loop-n-init c = search (rules, measuring_none)
 
-pub last_of-requires : goal.last_of-requires
-last_of-requires c = search (rules, last_small)
+pub unwrap-element-requires : goal.unwrap-element-requires
+unwrap-element-requires c = search (rules, met_fine)
+
+pub last_of-last-requires : goal.last_of-last-requires
+last_of-last-requires c = search (rules, last_small)
 
 pub element_len-total-requires : goal.element_len-total-requires
 element_len-total-requires c = search (rules, met_front, met_last)

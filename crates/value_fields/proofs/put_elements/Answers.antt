@@ -2,7 +2,7 @@
 use borrow.Author.Rules.{rules}
 use mathlib.Core.List.{[]}
 use native.Mathlib.Omega.{arith}
-use Rattle.value_fields.proofs.TurnLaws.{last_small, met_front, met_last, met_less}
+use Rattle.value_fields.proofs.TurnLaws.{last_small, met_fine, met_front, met_last, met_less}
 use Rattle.value_fields.proofs.WriteLaws.{writing_none, writing_inside, writing_room, writing_fits, writing_more, writing_end}
 use Rattle.value_fields.proofs.put_elements.Goals as goal
 
@@ -11,6 +11,9 @@ overflow_sub-leads c = omega (arith, c.arg_end-leads.ensures 0 [])
 
 pub loop-n-init : goal.loop-n-init
 loop-n-init c = search (rules, writing_none)
+
+pub unwrap-x-requires : goal.unwrap-x-requires
+unwrap-x-requires c = search (rules, met_fine)
 
 pub last_of-last-requires : goal.last_of-last-requires
 last_of-last-requires c = search (rules, last_small)

@@ -1,13 +1,10 @@
 -- `units_len` meets its contract: at every turn the total is the length of the units done.
 use borrow.Author.Rules.{rules}
-use Rattle.value_fields.proofs.MeasureLaws.{units_none, units_more, units_fit, units_all}
+use Rattle.value_fields.proofs.MeasureLaws.{units_none, units_more, units_all}
 use Rattle.value_fields.proofs.units_len.Goals as goal
 
 pub loop-i-init : goal.loop-i-init
 loop-i-init c = search (rules, units_none)
-
-pub overflow_add-total : goal.overflow_add-total
-overflow_add-total c = search (rules, units_fit)
 
 pub loop-i-preserved : goal.loop-i-preserved
 loop-i-preserved c = search (rules, units_more)

@@ -1,16 +1,7 @@
--- `console_figures::asked::put_asked` meets its contract: what is copied so far lies behind the first two bytes.
--- Assumes nothing.
-use borrow.Author.Rules.{rules}
-use native.Mathlib.Omega.{arith}
-use lib.ListN.{length-set}
-use Rattle.console_figures.proofs.AskedLaws.{putting_more, putting_end}
+-- `console_figures::asked::put_asked`: the two bytes, the argument and the `;` over the start of the buffer.
+use Rattle.console_figures.proofs.AskedLaws.{put_whole}
 use Rattle.console_figures.proofs.asked.put_asked.Goals as goal
 
-pub loop-i-preserved : goal.loop-i-preserved
-loop-i-preserved c = search (rules, putting_more)
-
-pub bounds-out-1 : goal.bounds-out-1
-bounds-out-1 c = simp length-set (omega arith)
-
 pub returns : goal.returns
-returns c = putting_end c.args.bytes.now c.args.n c.args.out.now c.front-argument.ensures c.loop-i.invariant c.loop-i-test.false
+returns c =
+    put_whole c.args.argument.now c.args.out.now c.requires c.copy_from_slice.ensures.after c.copy_from_slice-2.ensures.after

@@ -1,6 +1,0 @@
--- `console::keys::serve` is safe and ends: the measure is the number of turns that are left.
--- Assumes nothing.
-use Rattle.console.proofs.keys.serve.Given as goal
-
-abbrev pub decreases-loop-turns : goal.decreases-loop-turns
-decreases-loop-turns l = l.turns
