@@ -256,8 +256,8 @@ part_lies_there : PartLies
 part_lies_there r row n answer part a b = (
   part_lies r row n answer part a b,
   λ nr p h.
-  let q = no_part r row n answer part a b nr p h in
-  (q.0, ap number_of q.0 ∙ comes_bad Kept Whatever (placing r.now row n) nr p (placing_kept r.now row n) h, q.1),
+      let q = no_part r row n answer part a b nr p h in
+      (q.0, ap number_of q.0 ∙ comes_bad Kept Whatever (placing r.now row n) nr p (placing_kept r.now row n) h, q.1),
 )
 
 place_refused : PlaceRefused
