@@ -6,7 +6,6 @@ ghost use Rattle.std.specs.Prelude.{◌+◌, ◌≤◌, ◌≡◌, true, cond, [
 ghost use Rattle.laws.specs.Over.{over};
 ghost use Rattle.rules.specs.Characters.{byte};
 ghost use Rattle.rules.specs.Records.{field, field_bytes};
-ghost use Rattle.record_walk.specs.Tags.{number};
 ghost use Rattle.token_table.specs.Parts.{words_in, words_size};
 ghost use Rattle.command_fields.specs.Recorder.{word_bytes, NameFits, PutName, PlaceFits, PutPlace, PlacesFit, PutPlaces, BlockFits, PutBlock, BlocksFit, PutBlocks, SegmentsFit, PutSegments, CommandFits, PutCommand};
 
@@ -25,10 +24,10 @@ pub struct Put {
 }
 
 // The pieces of a code or of a name: a field for every other token.
-fn put_pieces(out: &mut [u8], tag: Tag, toks: &[Token], contents: &[u8]) -> usize
+fn put_pieces(out: &mut [u8], tag: u8, toks: &[Token], contents: &[u8]) -> usize
     requires { words_size (words_in true contents.now toks.now) ≤ length out.old }
     ensures { (result ≡ words_size (words_in true contents.now toks.now))
-        × (out.new ≡ over (word_bytes (number tag) (words_in true contents.now toks.now)) out.old) }
+        × (out.new ≡ over (word_bytes tag (words_in true contents.now toks.now)) out.old) }
 {
     let mut k: usize = 0;
     for t in toks.iter().step_by(STEP) {
@@ -38,9 +37,9 @@ fn put_pieces(out: &mut [u8], tag: Tag, toks: &[Token], contents: &[u8]) -> usiz
 }
 
 // A field whose content is one byte.
-fn put_byte(out: &mut [u8], tag: Tag, b: u8) -> usize
+fn put_byte(out: &mut [u8], tag: u8, b: u8) -> usize
     requires { 4 ≤ length out.old }
-    ensures { (result ≡ 4) × (out.new ≡ over (field_bytes (field (number tag) (b ∷ []))) out.old) }
+    ensures { (result ≡ 4) × (out.new ≡ over (field_bytes (field tag (b ∷ []))) out.old) }
 {
     fields::put_field(out, tag, &[b])
 }
@@ -51,7 +50,7 @@ fn put_name(out: &mut [u8], toks: &[Token], contents: &[u8], base: u8) -> usize
     ensures { PutName toks.now contents.now base result out.old out.new }
 {
     let k = token_table::find(toks, 0, Kind::Equals);
-    let p = put_pieces(out, Tag::Name, &toks[..k], contents);
+    let p = put_pieces(out, Tag::Name as u8, &toks[..k], contents);
     p + value_fields::put_value(&mut out[p..], &toks[k + 1..], contents, base)
 }
 
@@ -68,7 +67,7 @@ fn put_place(
     ensures { PutPlace toks.now contents.now bases.now named n result out.old out.new }
 {
     let base = read_bases::base(bases, n);
-    let p = put_byte(out, Tag::Place, base);
+    let p = put_byte(out, Tag::Place as u8, base);
     if named {
         return p + put_name(&mut out[p..], toks, contents, base);
     }
@@ -118,7 +117,7 @@ fn put_block(out: &mut [u8], toks: &[Token], contents: &[u8], bases: &[u8], firs
     ensures { PutBlock toks.now contents.now bases.now first result.bytes result.places out.old out.new }
 {
     let named = read_command::is_named(toks);
-    let p = put_byte(out, Tag::Block, kind_letter(named));
+    let p = put_byte(out, Tag::Block as u8, kind_letter(named));
     let r = put_places(&mut out[p..], toks, contents, bases, named, first);
     Put {
         bytes: p + r.bytes,
@@ -150,7 +149,7 @@ fn put_segments(out: &mut [u8], toks: &[Token], contents: &[u8], bases: &[u8]) -
     ensures { PutSegments toks.now contents.now bases.now result out.old out.new }
 {
     let k = token_table::find(toks, 0, Kind::Colon);
-    let p = put_pieces(out, Tag::Code, &toks[..k], contents);
+    let p = put_pieces(out, Tag::Code as u8, &toks[..k], contents);
     p + put_blocks(&mut out[p..], toks, contents, bases, k + 1)
 }
 

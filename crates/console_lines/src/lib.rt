@@ -24,7 +24,7 @@ enum State {
 }
 
 // Standard input, of whose block that was read last the bytes from `at` up to `end` are left.
-#[derive(Drop)]
+#[derive(Clone, Copy)]
 pub struct Input {
     stdin: Stdin,
     block: [u8; BLOCK],

@@ -93,8 +93,8 @@ pub fn write_record(record: &[u8]) -> Reply {
 // Writes that a command is accepted, its number of orders and its text.
 pub fn write_accepted(count: u64, text: &[u8]) -> Reply {
     let mut out = Screen::OUT;
-    let noun = if count == 1 { "order" } else { "orders" };
-    write!(out, "accepted, {count} {noun}: ")?;
+    let noun = if count == 1 { " order: " } else { " orders: " };
+    write!(out, "accepted, {count}{noun}")?;
     write_text(text)
 }
 

@@ -17,6 +17,8 @@ const HALF: usize = WIDTH / 2;
 // Room for a line, and a caret behind it.
 pub const ROW: usize = 80;
 
+const BLANKS: [u8; ROW] = [b' '; ROW];
+
 // A terminal, or whatever a descriptor leads to, to write to.
 #[derive(Clone, Copy, Debug, PartialEq, Eq)]
 pub struct Screen {
@@ -83,7 +85,7 @@ impl fmt::Display for Pointed<'_> {
         let place = self.place.min(line.len());
         let window = Window::around(line.len(), place);
         window.write(line, f)?;
-        writeln!(f, "{:1$}^", "", window.column(place))
+        writeln!(f, "{}^", Shown(&BLANKS[..window.column(place)]))
     }
 }
 

@@ -72,7 +72,7 @@ pub fn is_sign(b: u8) -> bool
 pub fn is_held_key(b: u8) -> bool
     ensures { result ≡ is_held_key b }
 {
-    matches!(b, b'0'..=b'9' | b'A'..=b'D' | b'*' | b'#')
+    is_digit(b) || matches!(b, b'*' | b'#' | b'A'..=b'D')
 }
 
 // A digit of keyed numerals as it is typed: a letter may be small.

@@ -5,7 +5,6 @@ ghost use Rattle.std.specs.Prelude.{◌≡◌, [], ◌∷◌, map, ◌+◌, ◌�
 ghost use Rattle.laws.specs.Over.{over};
 ghost use Rattle.rules.specs.Characters.{capital};
 ghost use Rattle.rules.specs.Records.{field, field_bytes};
-ghost use Rattle.record_walk.specs.Tags.{number};
 ghost use Rattle.fields.specs.Units.{two_bytes, numeral_bytes, unit_bytes, Skips};
 
 use record_walk::Tag;
@@ -51,20 +50,20 @@ fn put_capitals(out: &mut [u8], content: &[u8])
     }
 }
 
-// Writes what stands before a field's content: the tag, and the content's length in two bytes.
-pub fn put_header(out: &mut [u8], tag: Tag, n: u16)
+// Writes what stands before a field's content: the tag, which may be any byte, and the content's length in two bytes.
+pub fn put_header(out: &mut [u8], tag: u8, n: u16)
     requires { 3 ≤ length out.old }
-    ensures { out.new ≡ over (number tag ∷ two_bytes n) out.old }
+    ensures { out.new ≡ over (tag ∷ two_bytes n) out.old }
 {
-    put_u8(out, tag as u8);
+    put_u8(out, tag);
     put_u16(&mut out[1..], n);
 }
 
 // Writes a field: tag, length in two bytes, content. Returns how many bytes it wrote.
-pub fn put_field(out: &mut [u8], tag: Tag, content: &[u8]) -> usize
+pub fn put_field(out: &mut [u8], tag: u8, content: &[u8]) -> usize
     requires { (length content.now < 65536) × (3 + length content.now ≤ length out.old) }
     ensures { (result ≡ 3 + length content.now)
-        × (out.new ≡ over (field_bytes (field (number tag) content.now)) out.old) }
+        × (out.new ≡ over (field_bytes (field tag content.now)) out.old) }
 {
     let n = content.len();
     put_header(out, tag, n as u16);
@@ -79,7 +78,7 @@ fn put_keyed(out: &mut [u8], content: &[u8]) -> usize
         × (out.new ≡ over (field_bytes (field 8 (map capital content.now))) out.old) }
 {
     let n = content.len();
-    put_header(out, Tag::Keyed, n as u16);
+    put_header(out, Tag::Keyed as u8, n as u16);
     put_capitals(&mut out[record_walk::HEADER..], content);
     record_walk::HEADER + n
 }
@@ -89,7 +88,7 @@ pub fn put_numeral(out: &mut [u8], letter: u8, fraction: u8, value: u32)
     requires { 9 ≤ length out.old }
     ensures { out.new ≡ over (numeral_bytes letter fraction value) out.old }
 {
-    put_header(out, Tag::Numeral, NUMERAL_CONTENT);
+    put_header(out, Tag::Numeral as u8, NUMERAL_CONTENT);
     put_u8(&mut out[record_walk::LETTER..], letter);
     put_u8(&mut out[record_walk::FRACTION..], fraction);
     record_walk::put_number(&mut out[record_walk::VALUE..], value);
@@ -134,7 +133,7 @@ pub fn put_unit(out: &mut [u8], word: &[u8], unit: Result<Word, Fault>) -> usize
             record_walk::NUMERAL_FIELD
         }
         Word::Keyed { skip } => put_keyed(out, &word[skip..]),
-        Word::Identifier => put_field(out, Tag::Identifier, word),
-        Word::Symbolic => put_field(out, Tag::Symbolic, word),
+        Word::Identifier => put_field(out, Tag::Identifier as u8, word),
+        Word::Symbolic => put_field(out, Tag::Symbolic as u8, word),
     }
 }

@@ -55,5 +55,5 @@ pub fn place_end(rec: &[u8], at: usize) -> usize
     requires { HasPlace rec.now at }
     ensures { EndsAt rec.now at result }
 {
-    record_walk::run_end(rec, at + LETTER_FIELD, Tag::Name, Tag::String)
+    record_walk::run_end(rec, at + LETTER_FIELD, Tag::Name as u8, Tag::String as u8)
 }

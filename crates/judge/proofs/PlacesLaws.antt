@@ -38,10 +38,14 @@ unfolding counted
 counted_is (place b nm []) = refl
 counted_is (place b nm (e ∷ es)) = rw (ne_eqb (sum (map terms (e ∷ es))) 0 (λ h. omega (arith, terms_pos e)))
 
-pub counted_most : (n : ℕ) → max n 1 ≡ counted n
+counted_most : (n : ℕ) → max n 1 ≡ counted n
 unfolding counted
 counted_most zero = refl
 counted_most (suc n) = rw (ne_eqb (suc n) 0 (λ e. omega (arith, e))) (omega arith)
+
+-- the larger of a place's number of arguments and 1 is what it counts
+pub times_are : (total number : ℕ) {m p : ℕ} {r : Option ℕ} → m ≡ max number 1 → p ≡ total * m → r ≡ orders_of p → r ≡ orders_of (total * counted number)
+times_are total number e f h = h ∙ rw (f, e, counted_most) refl
 
 -- what an answer on orders says
 abbrev IsOrders : ℕ → Option ℕ → Type 0

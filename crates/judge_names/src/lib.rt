@@ -24,7 +24,7 @@ fn name_end(places: &[u8], start: usize) -> usize
     requires { Whole places.now start }
     ensures { RunsTo name_tag name_tag places.now start result }
 {
-    record_walk::run_end(places, start, Tag::Name, Tag::Name)
+    record_walk::run_end(places, start, Tag::Name as u8, Tag::Name as u8)
 }
 
 // Where the name of the place that stands there is: behind the place's field, up to its value.
@@ -48,7 +48,7 @@ fn stands(places: &[u8], name: &[u8]) -> bool
         if name == &places[spot.start..spot.end] {
             return true;
         }
-        at = record_walk::run_end(places, spot.end, Tag::Single, Tag::String);
+        at = record_walk::run_end(places, spot.end, Tag::Single as u8, Tag::String as u8);
     }
     false
 }

@@ -7,6 +7,8 @@ ghost use Rattle.rules.specs.Units.{is_held_key, numeral, keyed, identifier, sym
 ghost use Rattle.rules.specs.Records.{numeral_tag};
 ghost use Rattle.rules.specs.WellFormed.{is_none, wf_unit, ok_fraction};
 ghost use Rattle.digits.specs.Digits.{plain_letter};
+ghost use Rattle.std.specs.Bool.{then_some};
+ghost use Rattle.record_walk.specs.Fields.{length_at};
 ghost use Rattle.record_walk.specs.Tags.{number};
 ghost use Rattle.record_walk.specs.Runs.{bytes_in};
 ghost use Rattle.judge_unit.specs.Units.{ok_at, stands_as, numeral_stands, unit_stands, decimal_at, IsUnit};
@@ -44,7 +46,7 @@ fn no_double(word: &[u8]) -> bool
 fn is_permitted(b: u8) -> bool
     ensures { result ≡ is_permitted b }
 {
-    matches!(b, 9..=13 | b' '..=b'~')
+    matches!(b, b' '..=b'~') || matches!(b, 9..=13)
 }
 
 // Whether the word is no numeral of the base.
@@ -140,13 +142,27 @@ fn content_stands(rec: &[u8], field: Field, base: u8) -> bool
     }
 }
 
-// Where the unit's field that stands there ends, if a unit stands there that may.
-fn any_unit(rec: &[u8], at: usize, base: u8) -> Option<usize>
+// Whether a unit's field stands there that may.
+fn any_unit(rec: &[u8], at: usize, base: u8) -> bool
     requires { at ≤ length rec.now }
-    ensures { IsUnit (base_at base) rec.now at result }
+    ensures { IsUnit (base_at base) rec.now at (then_some result (at + 3 + length_at rec.now at)) }
 {
-    let field = record_walk::field_at(rec, at)?;
-    content_stands(rec, field, base).then_some(field.next)
+    let Some(field) = record_walk::field_at(rec, at) else {
+        return false;
+    };
+    content_stands(rec, field, base)
+}
+
+// Where the unit's field ends, if it may stand.
+fn end_of(rec: &[u8], at: usize, stands: bool) -> Option<usize>
+    requires { stands ≡ true → at + 3 + length_at rec.now at ≤ length rec.now }
+    ensures { result ≡ then_some stands (at + 3 + length_at rec.now at) }
+{
+    if stands {
+        Some(at + record_walk::field_end(rec[at + 1], rec[at + 2]))
+    } else {
+        None
+    }
 }
 
 // Whether a decimal numeral's field stands there.
@@ -166,10 +182,10 @@ pub fn unit_end(rec: &[u8], at: usize, base: u8) -> Option<usize>
     ensures { IsUnit (base_at base) rec.now at result }
 {
     if base == b'K' {
-        return any_unit(rec, at, b'K');
+        return end_of(rec, at, any_unit(rec, at, b'K'));
     }
     if is_decimal(rec, at) {
         return Some(at + record_walk::NUMERAL_FIELD);
     }
-    any_unit(rec, at, base)
+    end_of(rec, at, any_unit(rec, at, base))
 }

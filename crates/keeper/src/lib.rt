@@ -46,14 +46,35 @@ impl Spot {
     fn turned(self, b: u8) -> Spot
         ensures { result ≡ turned self b }
     {
-        match (self, b) {
-            (Spot::Slashed, b'*') => Spot::InComment,
-            (Spot::Outside | Spot::Slashed, _) => Spot::opened(b),
-            (Spot::InComment | Spot::Starred, b'*') => Spot::Starred,
-            (Spot::Starred, b'/') => Spot::Outside,
-            (Spot::InComment | Spot::Starred, _) => Spot::InComment,
-            (Spot::InString, b'"') => Spot::Outside,
-            (Spot::InString, _) => Spot::InString,
+        match self {
+            Spot::Outside => Spot::opened(b),
+            Spot::Slashed => {
+                if b == b'*' {
+                    return Spot::InComment;
+                }
+                Spot::opened(b)
+            }
+            Spot::InComment => {
+                if b == b'*' {
+                    return Spot::Starred;
+                }
+                Spot::InComment
+            }
+            Spot::Starred => {
+                if b == b'/' {
+                    return Spot::Outside;
+                }
+                if b == b'*' {
+                    return Spot::Starred;
+                }
+                Spot::InComment
+            }
+            Spot::InString => {
+                if b == b'"' {
+                    return Spot::Outside;
+                }
+                Spot::InString
+            }
         }
     }
 
@@ -64,11 +85,11 @@ impl Spot {
         matches!(self, Spot::Outside | Spot::Slashed)
     }
 
-    // Does the byte, at this spot, end the line?
+    // Does the byte, at this spot, end the line? The byte is asked first, since few are a `;`.
     fn ends(self, b: u8) -> bool
         ensures { result ≡ ends_here self b }
     {
-        self.is_outside() && b == END
+        b == END && self.is_outside()
     }
 }
 

@@ -166,7 +166,7 @@ fn put_length(out: &mut [u8], n: u32)
     requires { 7 ≤ length out.old }
     ensures { out.new ≡ over (length_bytes n) out.old }
 {
-    fields::put_header(out, Tag::OrderLength, CONTENT);
+    fields::put_header(out, Tag::OrderLength as u8, CONTENT);
     record_walk::put_number(&mut out[record_walk::HEADER..], n);
 }
 

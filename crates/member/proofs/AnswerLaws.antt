@@ -10,6 +10,7 @@ use Rattle.laws.specs.Lists.{is_nil}
 use Rattle.laws.specs.Over.{part}
 use Rattle.rules.specs.Characters.{between}
 use Rattle.std.proofs.Common.{Option, Some, None, Ok, Err}
+use Rattle.rules.specs.declared.Refusal.{Refusal}
 use Rattle.rules.specs.Reasons.{refusal}
 use Rattle.rules.specs.Refusals.{bad, not_well_formed, no_such_place, wrong_argument}
 use Rattle.rules.specs.Units.{Base, keys, letter, base_at, Unit}
@@ -119,8 +120,8 @@ module _ (rec row w : List ℕ) (i base : ℕ) {at : ℕ} {g : Bool} (a : at ≡
       let units : argument_of w ≡ ends given.lead given.last = ap argument_of (sym given.bytes) ∙ argument_back given.lead given.last in
       answer_found p w given.lead given.last q yes units (found (place_value p) given.lead given.last (place_holds p t) given.bytes)
 
-  pub row_wrong : g ≡ false → IsAnswer rec row i w (Err (refusal wrong_argument 0))
-  row_wrong y p t = let no : is_given (place_base p) w ≡ false = sym (given_under p t) ∙ y in rw no
+  pub row_wrong : {f : Refusal} → f ≡ refusal wrong_argument 0 → g ≡ false → IsAnswer rec row i w (Err f)
+  row_wrong s y p t = let no : is_given (place_base p) w ≡ false = sym (given_under p t) ∙ y in rw (s, no)
 
 -- ---- the record
 
@@ -180,9 +181,9 @@ module _ (rec row w : List ℕ) (m : ℕ) {r : Option Judged} {x : Judged} (e : 
     number_is = sym (get_or-take (per_place * n) row (3 * m) 0 (omega arith)) ∙ there.number ∙ arguments_are asked
 
     -- an omitted one
-    pub member_omitted : get_or row (3 * m) 0 ≡ 0 → Locates rec m w (Err (refusal no_such_place m))
+    pub member_omitted : {f : Refusal} → f ≡ refusal no_such_place m → get_or row (3 * m) 0 ≡ 0 → Locates rec m w (Err f)
     unfolding locating
-    member_omitted z = rw ((judged rec row e j).is, no_argument (place_value asked) (sym number_is ∙ z))
+    member_omitted s z = rw (s, (judged rec row e j).is, no_argument (place_value asked) (sym number_is ∙ z))
 
     pub member_room : 3 * m < row_length
     member_room = omega (arith, (judged rec row e j).few)

@@ -118,7 +118,7 @@ fn base(rec: &[u8], at: usize) -> u8
     requires { Ahead rec.now at }
     ensures { IsBase rec.now at result }
 {
-    let place = record_walk::run_end(rec, at, Tag::Code, Tag::Block);
+    let place = record_walk::run_end(rec, at, Tag::Code as u8, Tag::Block as u8);
     rec[place + record_walk::HEADER]
 }
 

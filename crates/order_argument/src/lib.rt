@@ -113,7 +113,7 @@ fn put_term(out: &mut [u8], range: &[u8], value: u32) -> usize
 {
     let last = range.len() - record_walk::NUMERAL_FIELD;
     let letter = range[last + record_walk::LETTER];
-    let first = fields::put_field(out, Tag::Single, b"");
+    let first = fields::put_field(out, Tag::Single as u8, b"");
     fields::put_bytes(&mut out[first..], &range[record_walk::RANGE_FIELD..last]);
     let unit = first + (last - record_walk::RANGE_FIELD);
     fields::put_numeral(&mut out[unit..], letter, 0, value);

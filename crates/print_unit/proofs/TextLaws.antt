@@ -11,7 +11,9 @@ use Rattle.rules.specs.Units.{Radix, Base, letter, radix_letter, num, keyed}
 use Rattle.rules.specs.Printing.{digits, digits_of, most_digits, num_text, prefixed, unit_text}
 use Rattle.digits.specs.Digits.{size_at, whole, fixed}
 use Rattle.digits.proofs.LetterLaws.{radix_at_lem, size_high, size_low}
+use Rattle.print_unit.specs.Ways.{Way, Fits, Puts}
 use Rattle.print_unit.specs.Texts.{prefix_of, part_text, number_text, numeral_text, keyed_text}
+use Rattle.print_unit.proofs.ChainLaws.{both_put, fits_first, fits_next}
 
 -- ---- piece by piece
 
@@ -40,6 +42,22 @@ module _ (l f v : ℕ) {s : ℕ} (q : s ≡ size_at l) where
 pub whole_text_is : (b l v : ℕ) {s : ℕ} → s ≡ size_at l → numeral_text b l 0 v ≡ prefix_of b l ++ whole s v
 unfolding numeral_text
 whole_text_is b l v q = ap (λ (t : List ℕ). prefix_of b l ++ t) (is_whole l 0 v q refl)
+
+-- a keyed numeral is a prefix and characters, where the prefix has the letter K
+keyed_is : (b : ℕ) (v : List ℕ) {l : ℕ} → l ≡ byte "K" → keyed_text b v ≡ prefix_of b l ++ v
+unfolding keyed_text
+keyed_is b v k = rw k refl
+
+module _ {w : Way} (b : ℕ) (v : List ℕ) {l at : ℕ} {old : List ℕ} (k : l ≡ byte "K") where
+  pub keyed_first : Fits w (keyed_text b v) at old → Fits w (prefix_of b l) at old
+  keyed_first h = fits_first (prefix_of b l) v (rw (keyed_is b v k) at h)
+
+  module _ {p : ℕ} {mid : List ℕ} (x : Puts w (prefix_of b l) at old p mid) where
+    pub keyed_next : Fits w (keyed_text b v) at old → Fits w v p mid
+    keyed_next h = fits_next (prefix_of b l) v (rw (keyed_is b v k) at h) x
+
+    pub keyed_put : {q : ℕ} {new : List ℕ} → Puts w v p mid q new → Puts w (keyed_text b v) at old q new
+    keyed_put y = rw (keyed_is b v k) (both_put (prefix_of b l) v x y)
 
 -- ---- the rules' text
 

@@ -36,6 +36,6 @@ pub fn put_head(out: &mut [u8], orders: u32)
     requires { head_size ≤ length out.old }
     ensures { out.new ≡ over (head_bytes orders) out.old }
 {
-    fields::put_header(out, Tag::Count, CONTENT);
+    fields::put_header(out, Tag::Count as u8, CONTENT);
     record_walk::put_number(&mut out[HEADER..], orders);
 }

@@ -54,6 +54,7 @@ pub record IsField (rec : List ℕ) (at t s k : ℕ) : Type 0 where
   pub tag : t ≡ head_tag (drop at rec)
   pub start : s ≡ at + 3
   pub ends : s ≤ k
+  pub size : k ≡ at + 3 + length_at rec at
   pub inside : k ≤ length rec
   pub fit : fits t (k - s) ≡ true
   pub long : length (bytes_in rec s k) ≡ k - s
@@ -84,6 +85,7 @@ module _ (rec : List ℕ) (at : ℕ) where
         tag = sym (head_some (drop at rec) (omega (arith, length-drop at rec)) ∙ tag_there);
         start = refl;
         ends = omega arith;
+        size = refl;
         inside = h;
         fit = rw size f;
         long = rw size (length-take-le n (drop (at + 3) rec) (omega (arith, length-drop (at + 3) rec)));

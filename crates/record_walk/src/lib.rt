@@ -199,19 +199,22 @@ impl Tag {
         }
     }
 
-    // Whether there are fields of this tag with contents so long.
+    // Whether there are fields of this tag with contents so long. Each tag has an arm of its own, so that compiled code still knows the tag behind the length.
     #[tactic(auto, unfolding(crate::specs::Fields::fits))]
     fn fits(self, len: usize) -> bool
         ensures { result ≡ fits (number self) len }
     {
         match self {
-            Tag::Code | Tag::Name | Tag::Keyed | Tag::Identifier | Tag::Symbolic => is_word_length(
-                len,
-            ),
-            Tag::Block | Tag::Place => len == LETTER_CONTENT,
+            Tag::Code => is_word_length(len),
+            Tag::Block => len == LETTER_CONTENT,
+            Tag::Place => len == LETTER_CONTENT,
+            Tag::Name => is_word_length(len),
             Tag::Single => len == 0,
             Tag::Range => len == RANGE_CONTENT,
             Tag::Numeral => len == NUMERAL_CONTENT,
+            Tag::Keyed => is_word_length(len),
+            Tag::Identifier => is_word_length(len),
+            Tag::Symbolic => is_word_length(len),
             Tag::String => len <= rules::MOST_STRING,
             Tag::Count => false,
             Tag::OrderLength => false,
@@ -220,6 +223,7 @@ impl Tag {
 }
 
 // The field that stands there, if its tag is one that there is, with a content as long as that tag's may be.
+#[inline]
 pub fn field_at(rec: &[u8], at: usize) -> Option<Field>
     requires { at ≤ length rec.now }
     ensures { result ≡ field_at rec.now at }
@@ -256,17 +260,17 @@ pub fn after(rec: &[u8], at: usize) -> usize
     }
 }
 
-// Whether the byte is a tag from `low` to `high`.
-fn is_between(tag: u8, low: Tag, high: Tag) -> bool
-    ensures { result ≡ between (number low) (number high) tag }
+// Whether the tag is one of those from `low` to `high`.
+fn is_between(tag: u8, low: u8, high: u8) -> bool
+    ensures { result ≡ between low high tag }
 {
-    low as u8 <= tag && tag <= high as u8
+    low <= tag && tag <= high
 }
 
-// Where the fields end that stand there one behind the other with tags from `low` to `high`.
-pub fn run_end(rec: &[u8], at: usize, low: Tag, high: Tag) -> usize
+// Where the fields end that stand there one behind the other with tags from `low` to `high`, which may be any bytes.
+pub fn run_end(rec: &[u8], at: usize, low: u8, high: u8) -> usize
     requires { Whole rec.now at }
-    ensures { RunsTo (number low) (number high) rec.now at result }
+    ensures { RunsTo low high rec.now at result }
 {
     let mut end = at;
     while end < rec.len() && is_between(rec[end], low, high) {
@@ -281,5 +285,5 @@ pub fn element_end(rec: &[u8], at: usize) -> usize
     ensures { ElementTo rec.now at result }
 {
     let units = after(rec, at);
-    run_end(rec, units, Tag::Numeral, Tag::String)
+    run_end(rec, units, Tag::Numeral as u8, Tag::String as u8)
 }

@@ -1,4 +1,4 @@
--- The table and the contents, a token at a time: what is stored behind the tokens so far leaves these as they are, and is the token that the cursor gave.
+-- The table and the contents, a token at a time: what is stored behind the tokens so far leaves these as they are, and is the token that was read.
 use Prim.Native.Nat.{ℕ, ◌+◌, ◌-◌, ◌*◌, ◌<◌, ◌≤◌}
 use mathlib.Core.Path.{◌≡◌, refl, sym, ap, ap₂, ◌∙◌}
 use mathlib.Core.List.{List, [], ◌∷◌, ◌++◌, map-append, append-nil}
@@ -16,7 +16,8 @@ use Rattle.rules.specs.declared.Refusal.{Refusal}
 use Rattle.token_table.specs.declared.Token.{Token as Entry}
 use Rattle.token_table.specs.Table.{number, content_in, from_in, size_in, lex_of_kind, token_in, tokens_in, Within}
 use Rattle.token_table.proofs.WithinLaws.{within_more, kept}
-use Rattle.scan.specs.Along.{run_at, RefusedBy}
+use Rattle.scan.specs.Along.{run_at, RefusedBy, Passes}
+use Rattle.scan.proofs.RunLaws.{run_end}
 use Rattle.scan.specs.Scanned.{IsOne}
 use Rattle.scan.specs.declared.Cursor.{Cursor}
 use Rattle.scan.specs.declared.Scanned.{Scanned}
@@ -62,6 +63,19 @@ fill_none s toks c =
       wide = refl;
     }
 
+-- what is passed over gives no token
+pub fill_gap : {s : List ℕ} {toks₀ : List Entry} {c₀ : List ℕ} {toks : List Entry} {c : List ℕ} {i t k a : ℕ} → Filling s toks₀ c₀ toks c i t k → Passes s i a → Filling s toks₀ c₀ toks c a t k
+fill_gap v b =
+    record {
+      reads = v.reads ∙ rw b.reads;
+      within = v.within;
+      few = omega (arith, v.few, b.past);
+      used = omega (arith, v.used, b.past);
+      inside = b.inside;
+      long = v.long;
+      wide = v.wide;
+    }
+
 module _ {s : List ℕ} {toks₀ : List Entry} {c₀ : List ℕ} {toks : List Entry} {c : List ℕ} {i t k : ℕ} (v : Filling s toks₀ c₀ toks c i t k) (short : length s ≤ most_text) (room : length s ≤ length toks₀)
     (space : length s ≤ length c₀) where
   pub fill_room : length s ≤ length (part c k) + i
@@ -88,21 +102,20 @@ module _ {s : List ℕ} {toks₀ : List Entry} {c₀ : List ℕ} {toks : List En
   fill_err ts cs (Ok f) e h w = absurd h
   fill_err ts cs (Err x) e h w = rw h (fill_bad e w)
 
-  module _ (ys : List ℕ) where
-    pub fill_end : length ys ≡ length (part c k) → run_at idle s i ≡ ok [] → Holds (run idle 0 s) toks (back c k ys) t k
-    unfolding run_at
-    fill_end l e =
-        let same = kept (take t toks) k c (ys ++ drop (length c - k) (drop k c)) v.within fill_inside in
-        record {
-          is = v.reads ∙ rw (e, same) (ap (λ l. ok l) (append-nil (tokens_in c (take t toks))));
-          within = v.within;
-          table = omega (arith, v.few, v.inside, v.long);
-          bytes = omega (arith, back_long c k ys fill_inside l, fill_inside);
-        }
+  pub fill_end : i ≡ length s → Holds (run idle 0 s) toks c t k
+  unfolding run_at
+  fill_end e =
+      record {
+        is = v.reads ∙ rw (run_end idle s i (omega arith)) (ap (λ l. ok l) (append-nil (tokens_in c (take t toks))));
+        within = v.within;
+        table = omega (arith, v.few, v.inside, v.long);
+        bytes = fill_inside;
+      }
 
+  module _ (ys : List ℕ) where
     module _ (r : Scanned) (token : IsOne (run_at idle s i) s i ys r) where
-      pub fill_place : Scanned.place r < 65536
-      fill_place = omega (arith, token.place)
+      pub fill_place : i < 65536
+      fill_place = omega (arith, token.past, token.inside)
 
       pub fill_size : Scanned.len r < 65536
       fill_size = omega (arith, token.fits, token.inside)
@@ -116,26 +129,25 @@ module _ {s : List ℕ} {toks₀ : List Entry} {c₀ : List ℕ} {toks : List En
       pub fill_less : length s - Cursor.at (Scanned.next r) < length s - i
       fill_less = omega (arith, token.past, token.inside)
 
-      pub fill_more : (x : Entry) → length ys ≡ length (part c k) → x ≡ record { kind = Scanned.kind r; place = Scanned.place r; start = k; len = Scanned.len r }
+      pub fill_more : (x : Entry) → length ys ≡ length (part c k) → x ≡ record { kind = Scanned.kind r; place = i; start = k; len = Scanned.len r }
           → Filling s toks₀ c₀ (set toks t x) (back c k ys) (Cursor.at (Scanned.next r)) (t + 1) (k + Scanned.len r)
       unfolding content_in
       fill_more x l q =
           let w = token in
-          let p = Scanned.place r in
           let n = Scanned.len r in
           let kind = number (Scanned.kind r) in
           let hn : n ≤ length ys = omega (arith, length_part c k, w.fits, w.inside, v.used, v.wide) in
           let c' : List ℕ = back c k ys in
           let ts : List Entry = take t toks in
           let grown : take (t + 1) (set toks t x) ≡ ts ++ (x ∷ []) = rw (add-one t) (take-suc-set toks t x fill_slot) in
-          let its : token_in c' x ≡ at p (lex_of_kind kind (take n ys))
-          = rw q (ap (λ z. at p (lex_of_kind kind z)) (lent c ys k n fill_inside hn)) in
-          let all : tokens_in c' (take (t + 1) (set toks t x)) ≡ tokens_in c ts ++ (at p (lex_of_kind kind (take n ys)) ∷ [])
+          let its : token_in c' x ≡ at i (lex_of_kind kind (take n ys))
+          = rw q (ap (λ z. at i (lex_of_kind kind z)) (lent c ys k n fill_inside hn)) in
+          let all : tokens_in c' (take (t + 1) (set toks t x)) ≡ tokens_in c ts ++ (at i (lex_of_kind kind (take n ys)) ∷ [])
           = ap (λ z. tokens_in c' z) grown ∙ map-append (token_in c') ts (x ∷ [])
           ∙ ap₂ (λ a b. a ++ (b ∷ [])) (kept ts k c (ys ++ drop (length c - k) (drop k c)) v.within fill_inside) its in
           let ends : from_in x + size_in x ≤ k + n = rw q (omega arith) in
           record {
-            reads = v.reads ∙ rw (w.reads, all) (sym (then_assoc (ok (tokens_in c ts)) (ok (at p (lex_of_kind kind (take n ys)) ∷ [])) (run_at idle s (Cursor.at (Scanned.next r)))));
+            reads = v.reads ∙ rw (w.reads, all) (sym (then_assoc (ok (tokens_in c ts)) (ok (at i (lex_of_kind kind (take n ys)) ∷ [])) (run_at idle s (Cursor.at (Scanned.next r)))));
             within = rw grown (within_more ts k (k + n) x v.within (omega arith) ends);
             few = omega (arith, v.few, w.past);
             used = omega (arith, v.used, w.fits);

@@ -19,7 +19,7 @@ use Rattle.chars.proofs.ClassLaws.{is_word, is_effector_lem, is_plus, is_amp, is
 use Rattle.token_table.specs.Table.{lex_of_kind, string_kind}
 use Rattle.scan.specs.Along.{run_at, Skipped, IsWord, Ends, IsString, IsAmp, Begins}
 use Rattle.std.proofs.Common.{Option, None, Result, Ok, Err}
-use Rattle.rules.specs.declared.Refusal.{Refusal}
+use Rattle.rules.specs.declared.Reason.{Reason}
 use Rattle.token_table.specs.declared.Kind.{Kind}
 use Rattle.token_table.specs.declared.Kind.TheVariants.{PlusPlus, Dash as DashKind, Comma as CommaKind, Colon as ColonKind, Equals as EqualsKind, Semicolon as SemicolonKind, Word as WordKind, String as StringKind}
 use Rattle.token_table.specs.Table.{number as kind_number}
@@ -30,23 +30,19 @@ use Rattle.scan.proofs.WordLaws.{plus_word}
 use Rattle.scan.specs.Scanned.{IsScanned, IsOne, IsToken, IsSep}
 use Rattle.scan.specs.declared.Scanned.{Scanned}
 
--- a token of a kind at a place, its content of n bytes, up to e
-abbrev pub scanned : Kind → ℕ → ℕ → ℕ → Scanned
-scanned k p n e = record { kind = k; place = p; len = n; next = record { at = e } }
+-- a token of a kind, its content of n bytes, up to e
+abbrev pub scanned : Kind → ℕ → ℕ → Scanned
+scanned k n e = record { kind = k; len = n; next = record { at = e } }
 
 -- the same promise for what gives the same
-pub again : {x y : Res (List Token)} (s : List ℕ) (i j : ℕ) (out : List ℕ) (t : Scanned) → y ≡ x → j ≤ i → IsOne x s i out t → IsOne y s j out t
-again s i j out r q h t =
-    record { reads = q ∙ t.reads; few = t.few; place = t.place; fits = omega (arith, t.fits); past = omega (arith, t.past); inside = t.inside }
-
-again_all : {x y : Res (List Token)} (s : List ℕ) (i : ℕ) (out : List ℕ) (r : Result Scanned Refusal) → y ≡ x → IsScanned x s i out r → IsScanned y s i out r
-again_all s i out (Ok r) q t = again s i i out r q (omega arith) t
-again_all s i out (Err e) q t = q ∙ t
+again_all : {x y : Res (List Token)} (s : List ℕ) (i : ℕ) (out : List ℕ) (r : Result Scanned Reason) → y ≡ x → IsScanned x s i out r → IsScanned y s i out r
+again_all s i out (Ok r) q t = record { reads = q ∙ t.reads; few = t.few; fits = t.fits; past = t.past; inside = t.inside }
+again_all s i out (Err r) q t = q ∙ t
 
 -- a token at the place i, up to e
 its_token : {x : Res (List Token)} {s out : List ℕ} {k i n e : ℕ} → x ≡ and_then (ok (at i (lex_of_kind k (take n out)) ∷ [])) (run_at idle s e) → k ≤ string_kind → n + i ≤ e → i < e
-    → e ≤ length s → IsToken x s i out k i n e
-its_token r f h p b = record { reads = r; few = f; place = omega arith; fits = h; past = p; inside = b }
+    → e ≤ length s → IsToken x s i out k n e
+its_token r f h p b = record { reads = r; few = f; fits = h; past = p; inside = b }
 
 -- ---- words
 
@@ -68,11 +64,11 @@ module _ {s : List ℕ} {i first : ℕ} {out : List ℕ} {n e : ℕ} (v : IsWord
   its_length : length (take n out) ≡ n
   its_length = length-take-le n out (omega (arith, v.fits, v.inside))
 
-  accepted : length (take n out) ≤ word_most (take n out) → IsOne (run_at (in_word q (first ∷ [])) s i) s q out (scanned WordKind q n e)
+  accepted : length (take n out) ≤ word_most (take n out) → IsOne (run_at (in_word q (first ∷ [])) s i) s q out (scanned WordKind n e)
   unfolding lex_of_kind
   accepted g = its_token (v.reads q ∙ rw (short_word q (take n out) g)) (omega arith) (omega (arith, v.fits)) (omega (arith, v.past)) v.inside
 
-  pub word_short : n ≤ most_word → IsOne (run_at (in_word q (first ∷ [])) s i) s q out (scanned WordKind q n e)
+  pub word_short : n ≤ most_word → IsOne (run_at (in_word q (first ∷ [])) s i) s q out (scanned WordKind n e)
   word_short g = accepted (omega (arith, its_length, at_least (take n out)))
 
   pub word_long : most_prefixed < n → run_at (in_word q (first ∷ [])) s i ≡ bad too_many q
@@ -85,7 +81,7 @@ module _ {s : List ℕ} {i first : ℕ} {out : List ℕ} {n e : ℕ} (v : IsWord
     second : get_or (take n out) 1 0 ≡ get_or out 1 0
     second = get_or-take n out 1 0 (omega arith)
 
-    pub word_prefixed : n ≤ most_prefixed → get_or out 1 0 ≡ byte "'" → IsOne (run_at (in_word q (first ∷ [])) s i) s q out (scanned WordKind q n e)
+    pub word_prefixed : n ≤ most_prefixed → get_or out 1 0 ≡ byte "'" → IsOne (run_at (in_word q (first ∷ [])) s i) s q out (scanned WordKind n e)
     word_prefixed l t =
         let m : word_most (take n out) ≡ most_prefixed = rw (second, eq-eqb (get_or out 1 0) (byte "'") t) in
         accepted (omega (arith, its_length))
@@ -101,15 +97,15 @@ module _ (s : List ℕ) (i : ℕ) {j b : ℕ} (y : get_or s i 0 ≡ byte "+") (z
   begun : run_at idle s i ≡ run_at (in_plus i [] i) s j
   begun = stayed idle (in_plus i [] i) s i (inside s i y) (rw y) ∙ z.reads (in_plus i [] i) (skips_plus i [] i)
 
-  pub plus_double : b ≡ byte "+" → (out : List ℕ) → IsOne (run_at idle s i) s i out (scanned PlusPlus i 0 (j + 1))
+  pub plus_double : b ≡ byte "+" → (out : List ℕ) → IsOne (run_at idle s i) s i out (scanned PlusPlus 0 (j + 1))
   unfolding lex_of_kind
   plus_double t out =
       let u : get_or s j 0 ≡ byte "+" = sym g ∙ t in
       let k : j < length s = inside s j u in
       its_token (begun ∙ run_step (in_plus i [] i) s j k ∙ rw u) (omega arith) (omega (arith, z.past)) (omega (arith, z.past)) (omega arith)
 
-  pub plus_one : (b ≡ byte "+" → ⊥) → (out : List ℕ) (r : Result Scanned Refusal) → IsScanned (run_at (in_word i (byte "+" ∷ [])) s j) s i out r → IsScanned (run_at idle s i) s i out r
-  plus_one m out r t = again_all s i out r (begun ∙ plus_word i [] i s j (λ u. m (g ∙ u)) z.stops) t
+  pub plus_one : (b ≡ byte "+" → ⊥) → (out : List ℕ) (r : Result Scanned Reason) → IsScanned (run_at (in_word i (get_or s i 0 ∷ [])) s j) s i out r → IsScanned (run_at idle s i) s i out r
+  plus_one m out r t = again_all s i out r (begun ∙ plus_word i [] i s j (λ u. m (g ∙ u)) z.stops ∙ rw y) t
 
 -- ---- strings
 
@@ -124,7 +120,7 @@ module _ (s : List ℕ) (i : ℕ) (y : get_or s i 0 ≡ byte "\"") where
     size : length (take n out) ≡ n
     size = length-take-le n out (omega (arith, v.fits, v.inside))
 
-    pub string_fine : n ≤ most_string → IsOne (run_at idle s i) s i out (scanned StringKind i n e)
+    pub string_fine : n ≤ most_string → IsOne (run_at idle s i) s i out (scanned StringKind n e)
     unfolding lex_of_kind
     string_fine h =
         let l : leb (length (take n out)) most_string ≡ true = le-leb (length (take n out)) most_string (omega (arith, size)) in
@@ -137,7 +133,7 @@ module _ (s : List ℕ) (i : ℕ) (y : get_or s i 0 ≡ byte "\"") where
 
 -- ---- `&`
 
-pub amp_token : (s : List ℕ) (i : ℕ) (k : Kind) {e : ℕ} → get_or s i 0 ≡ byte "&" → IsAmp s (i + 1) (kind_number k) e → IsSep (run_at idle s i) s i (scanned k i 0 e)
+pub amp_token : (s : List ℕ) (i : ℕ) (k : Kind) {e : ℕ} → get_or s i 0 ≡ byte "&" → IsAmp s (i + 1) (kind_number k) e → IsSep (run_at idle s i) s i (scanned k 0 e)
 amp_token s i k y v out =
     its_token (stayed idle (one_amp i) s i (inside s i y) (rw y) ∙ v.reads i (take 0 out)) v.few (omega (arith, v.past)) (omega (arith, v.past)) v.inside
 
@@ -162,7 +158,7 @@ fresh_is : (p c : ℕ) → fresh p c ≡ by_class p c (class_of c)
 fresh_is p c =
     rw (is_word c, is_plus c, is_amp c, is_dash c, is_comma c, is_colon c, is_equals c, is_semi c, is_slash c, is_mark c, is_effector_lem c)
 
-module _ {s : List ℕ} {i : ℕ} {c : Class} (v : Begins s i i (number c)) where
+module _ {s : List ℕ} {i : ℕ} {c : Class} (v : Begins s i (number c)) where
   begins : (k : Class) → c ≡ k → fresh i (get_or s i 0) ≡ by_class i (get_or s i 0) (number k)
   begins k t = fresh_is i (get_or s i 0) ∙ rw (← v.class, t)
 
@@ -175,7 +171,7 @@ module _ {s : List ℕ} {i : ℕ} {c : Class} (v : Begins s i i (number c)) wher
   pub starts_string : c ≡ Mark → get_or s i 0 ≡ byte "\""
   starts_string t = eqb-true (get_or s i 0) (byte "\"") (is_mark (get_or s i 0) ∙ rw (← v.class, t))
 
-  pub starts_word : c ≡ Word → (out : List ℕ) (r : Result Scanned Refusal) → IsScanned (run_at (in_word i (get_or s i 0 ∷ [])) s (i + 1)) s i out r → IsScanned (run_at idle s i) s i out r
+  pub starts_word : c ≡ Word → (out : List ℕ) (r : Result Scanned Reason) → IsScanned (run_at (in_word i (get_or s i 0 ∷ [])) s (i + 1)) s i out r → IsScanned (run_at idle s i) s i out r
   starts_word t out r w = again_all s i out r (stayed idle (in_word i (get_or s i 0 ∷ [])) s i v.inside (begins Word t)) w
 
   starts_no : (k : Class) → c ≡ k → by_class i (get_or s i 0) (number k) ≡ emit (bad no_token i) idle → run_at idle s i ≡ bad no_token i
@@ -200,26 +196,26 @@ module _ {s : List ℕ} {i : ℕ} {c : Class} (v : Begins s i i (number c)) wher
 
   -- a separator of one byte
   separator : (out : List ℕ) (k : Class) (j : Kind) (l : Sep) → c ≡ k → kind_number j ≤ string_kind → lex_of_kind (kind_number j) (take 0 out) ≡ sep l → by_class i (get_or s i 0) (number k) ≡ one_sep i l
-      → IsOne (run_at idle s i) s i out (scanned j i 0 (i + 1))
+      → IsOne (run_at idle s i) s i out (scanned j 0 (i + 1))
   separator out k j l t f e b =
       its_token (run_step idle s i v.inside ∙ rw (begins k t, b, e)) f (omega arith) (omega arith) (omega (arith, v.inside))
 
-  pub starts_dash : (out : List ℕ) → c ≡ Dash → IsOne (run_at idle s i) s i out (scanned DashKind i 0 (i + 1))
+  pub starts_dash : (out : List ℕ) → c ≡ Dash → IsOne (run_at idle s i) s i out (scanned DashKind 0 (i + 1))
   unfolding lex_of_kind
   starts_dash out t = separator out Dash DashKind dash t (omega arith) refl refl
 
-  pub starts_comma : (out : List ℕ) → c ≡ Comma → IsOne (run_at idle s i) s i out (scanned CommaKind i 0 (i + 1))
+  pub starts_comma : (out : List ℕ) → c ≡ Comma → IsOne (run_at idle s i) s i out (scanned CommaKind 0 (i + 1))
   unfolding lex_of_kind
   starts_comma out t = separator out Comma CommaKind comma t (omega arith) refl refl
 
-  pub starts_colon : (out : List ℕ) → c ≡ Colon → IsOne (run_at idle s i) s i out (scanned ColonKind i 0 (i + 1))
+  pub starts_colon : (out : List ℕ) → c ≡ Colon → IsOne (run_at idle s i) s i out (scanned ColonKind 0 (i + 1))
   unfolding lex_of_kind
   starts_colon out t = separator out Colon ColonKind colon t (omega arith) refl refl
 
-  pub starts_equals : (out : List ℕ) → c ≡ Equals → IsOne (run_at idle s i) s i out (scanned EqualsKind i 0 (i + 1))
+  pub starts_equals : (out : List ℕ) → c ≡ Equals → IsOne (run_at idle s i) s i out (scanned EqualsKind 0 (i + 1))
   unfolding lex_of_kind
   starts_equals out t = separator out Equals EqualsKind equals t (omega arith) refl refl
 
-  pub starts_semicolon : (out : List ℕ) → c ≡ Semicolon → IsOne (run_at idle s i) s i out (scanned SemicolonKind i 0 (i + 1))
+  pub starts_semicolon : (out : List ℕ) → c ≡ Semicolon → IsOne (run_at idle s i) s i out (scanned SemicolonKind 0 (i + 1))
   unfolding lex_of_kind
   starts_semicolon out t = separator out Semicolon SemicolonKind semi t (omega arith) refl refl

@@ -3,7 +3,7 @@ use mir.Syntax.{w64}
 use mir.Val.{Fits}
 use Prim.Native.Nat.{◌*◌, ◌^◌, ℕ, ◌+◌, ◌<◌, ◌≤◌}
 use mathlib.Core.Path.{◌≡◌, refl, sym, ap, ◌∙◌}
-use mathlib.Core.Bool.{false}
+use mathlib.Core.Bool.{Bool, true, false}
 use mathlib.Core.List.{List, [], ◌∷◌, reverse, reverse-reverse}
 use native.Mathlib.Omega.{arith}
 use lib.Dec.{eqb, ltb}
@@ -15,6 +15,8 @@ use Rattle.rules.specs.Characters.{byte, is_word_char, is_effector}
 use Rattle.rules.specs.Refusals.{Res, ok}
 use Rattle.rules.specs.Tokens.{plusplus, sep, Token, at, idle, in_word, in_plus, word_token, word_tokens, and_then}
 use Rattle.rules.proofs.ScanBack.{then_assoc, then_nil}
+use denote.Enum.Bare.{sameb, same_true, same_false}
+use Rattle.chars.specs.contracts.Class.{the_type}
 use Rattle.chars.specs.declared.Class.{Class}
 use Rattle.chars.specs.declared.Class.TheVariants.{Word, Plus, Effector}
 use Rattle.chars.specs.Classes.{class_of, number, word_class, plus_class}
@@ -108,14 +110,16 @@ module _ {s : List ℕ} {i₀ first : ℕ} {old out : List ℕ} {n i : ℕ} (v :
   pub word_end : length s ≤ i → IsWord s i₀ first out n i
   word_end h = ends (λ q w l. rw (run_end (in_word q w) s i h, run_end idle s i h) (then_nil (word_token q (reverse w))))
 
-  module _ {k : Class} (h : i < length s) (e : number k ≡ class_of (get_or s i 0)) where
-    pub word_char : k ≡ Word → Wording s i₀ first old (set out n (get_or s i 0)) (n + 1) (i + 1)
-    word_char t =
+  module _ (k : Class) (h : i < length s) (e : number k ≡ class_of (get_or s i 0)) where
+    pub word_char : {b : Bool} → b ≡ sameb the_type k Word → b ≡ true → Wording s i₀ first old (set out n (get_or s i 0)) (n + 1) (i + 1)
+    word_char d f =
+        let t : k ≡ Word = same_true the_type tt k Word (sym d ∙ f) in
         more (get_or s i 0) (i + 1) (word_room h) (omega arith) (omega arith)
         (λ q w. stayed (in_word q w) (in_word q (get_or s i 0 ∷ w)) s i h (rw (is_word (get_or s i 0), ← e, t)))
 
-    pub word_skip : k ≡ Effector → Wording s i₀ first old out n (i + 1)
-    word_skip t =
+    pub word_skip : {b : Bool} → b ≡ sameb the_type k Effector → b ≡ true → Wording s i₀ first old out n (i + 1)
+    word_skip d f =
+        let t : k ≡ Effector = same_true the_type tt k Effector (sym d ∙ f) in
         record {
           reads = λ q. v.reads q ∙ stayed (in_word q (reverse (take n out))) (in_word q (reverse (take n out))) s i h (skips_word q (reverse (take n out)) i (get_or s i 0) (effector_yes (get_or s i 0) e (ap number t)));
           some = v.some;
@@ -126,8 +130,11 @@ module _ {s : List ℕ} {i₀ first : ℕ} {old out : List ℕ} {n i : ℕ} (v :
           long = v.long;
         }
 
-    pub word_other : (k ≡ Word → ⊥) → (k ≡ Effector → ⊥) → (k ≡ Plus → ⊥) → IsWord s i₀ first out n i
-    word_other n1 n4 n2 =
+    pub word_other : {b1 b4 b2 : Bool} → b1 ≡ sameb the_type k Word → b1 ≡ false → b4 ≡ sameb the_type k Effector → b4 ≡ false → b2 ≡ sameb the_type k Plus → b2 ≡ false → IsWord s i₀ first out n i
+    word_other d1 f1 d4 f4 d2 f2 =
+        let n1 : k ≡ Word → ⊥ = same_false the_type k Word (sym d1 ∙ f1) in
+        let n4 : k ≡ Effector → ⊥ = same_false the_type k Effector (sym d4 ∙ f4) in
+        let n2 : k ≡ Plus → ⊥ = same_false the_type k Plus (sym d2 ∙ f2) in
         let c = get_or s i 0 in
         let w1 : is_word_char c ≡ false = is_word c ∙ rw (← e) (ne_eqb (number k) word_class (other_class_of n1)) in
         let w2 : eqb c (byte "+") ≡ false = is_plus c ∙ rw (← e) (ne_eqb (number k) plus_class (other_class_of n2)) in
@@ -135,7 +142,10 @@ module _ {s : List ℕ} {i₀ first : ℕ} {old out : List ℕ} {n i : ℕ} (v :
         ends (λ q w l. settle (in_word q w) s i (λ p. rw (w1, w2, w4)))
 
     -- a `+`, and what stands behind it
-    module _ {j b : ℕ} (t : k ≡ Plus) (z : Skipped s (i + 1) j) (g : b ≡ get_or s j 0) where
+    module _ {f : Bool} {j b : ℕ} (d : f ≡ sameb the_type k Plus) (u : f ≡ true) (z : Skipped s (i + 1) j) (g : b ≡ get_or s j 0) where
+      t : k ≡ Plus
+      t = same_true the_type tt k Plus (sym d ∙ u)
+
       plus : get_or s i 0 ≡ byte "+"
       plus = eqb-true (get_or s i 0) (byte "+") (is_plus (get_or s i 0) ∙ rw (← e, t))
 

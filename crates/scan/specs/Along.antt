@@ -5,10 +5,9 @@ use Rattle.rules.specs.Refusals.{Res, ok, bad, unclosed}
 use Rattle.rules.specs.Tokens.{Token, at, State, idle, in_word, one_amp, comment, in_str, word_token, str_token, and_then, stay, step, run}
 use Rattle.rules.specs.declared.Refusal.{Refusal}
 use Rattle.rules.specs.Reasons.{number as reason_number}
-use Rattle.chars.specs.Classes.{class_of, number, effector_class, slash_class}
+use Rattle.chars.specs.Classes.{class_of, effector_class, slash_class}
 use Rattle.token_table.specs.Table.{lex_of_kind, string_kind}
 use Rattle.scan.specs.declared.Content.{Content}
-use Rattle.scan.specs.declared.Start.{Start}
 
 -- the automaton on the text from place i on
 unfoldable pub run_at : State → List ℕ → ℕ → Res (List Token)
@@ -63,16 +62,19 @@ pub record IsAmp (s : List ℕ) (i k e : ℕ) : Type 0 where
 abbrev pub RefusedBy : {A : Type 0} → Res A → Refusal → Type 0
 RefusedBy x e = x ≡ bad (reason_number (Refusal.reason e)) (Refusal.place e)
 
--- between tokens at i, the automaton is between tokens at a, where a byte of class k begins something
-pub record Begins (s : List ℕ) (i a k : ℕ) : Type 0 where
-  pub reads : run_at idle s i ≡ run_at idle s a
-  pub class : k ≡ class_of (get_or s a 0)
+-- between tokens at i, the automaton is between tokens at e
+pub record Passes (s : List ℕ) (i e : ℕ) : Type 0 where
+  pub reads : run_at idle s i ≡ run_at idle s e
+  pub past : i < e
+  pub inside : e ≤ length s
+
+abbrev pub IsPassed : List ℕ → ℕ → Result ℕ Refusal → Type 0
+IsPassed s i (Ok e) = Passes s i e
+IsPassed s i (Err e) = RefusedBy (run_at idle s i) e
+
+-- a byte of class k stands at i, which begins something
+pub record Begins (s : List ℕ) (i k : ℕ) : Type 0 where
+  pub class : k ≡ class_of (get_or s i 0)
   pub solid : k ≡ effector_class → ⊥
   pub plain : k ≡ slash_class → ⊥
-  pub past : i ≤ a
-  pub inside : a < length s
-
-abbrev pub IsGap : List ℕ → ℕ → Result (Option Start) Refusal → Type 0
-IsGap s i (Ok (Some b)) = Begins s i (Start.at b) (number (Start.class b))
-IsGap s i (Ok None) = run_at idle s i ≡ ok []
-IsGap s i (Err e) = RefusedBy (run_at idle s i) e
+  pub inside : i < length s

@@ -1,15 +1,15 @@
-// A text into its tokens. The stretches of a text (a gap, a word, a string, a separator that begins with `&`), each with a promise of what the
-// rules' automaton does over it; the cursor, which reads one token after the other (4, 5, and 15 for words and strings); and the whole
-// text (2, 3, then what the cursor finds), as a table of tokens with their contents one behind the other.
+// A text into its tokens. The stretches of a text (a comment, a word, a string, a separator that begins with `&`), each with a promise of what the
+// rules' automaton does over it; one token, by the class of its first byte (4, 5, and 15 for words and strings); and the whole text (2, 3,
+// then what is refused first of its tokens and comments), as a table of tokens with their contents one behind the other.
 #![tactic(auto)]
 
 ghost use Rattle.std.specs.Prelude.{◌≡◌, ◌+◌, ◌<◌, ◌≤◌, length, get_or, [], ◌∷◌};
-ghost use Rattle.scan.specs.Along.{Skipped, IsComment, IsWord, IsString, IsAmp, IsGap, run_at, Begins};
+ghost use Rattle.scan.specs.Along.{Skipped, IsComment, IsWord, IsString, IsAmp, IsPassed, run_at, Begins};
 ghost use Rattle.rules.specs.Characters.{byte};
-ghost use Rattle.rules.specs.Tokens.{idle, in_word, run, scan};
 ghost use Rattle.chars.specs.Classes.{number};
+ghost use Rattle.rules.specs.Tokens.{idle, in_word, run, scan};
 ghost use Rattle.token_table.specs.Table.{number as kind_number};
-ghost use Rattle.scan.specs.Scanned.{IsScanned, IsNext, IsSep};
+ghost use Rattle.scan.specs.Scanned.{IsScanned, IsSep};
 ghost use Rattle.rules.specs.Refusals.{most_text};
 ghost use Rattle.scan.specs.Filled.{IsFilled};
 
@@ -66,28 +66,24 @@ fn word(text: &[u8], first: u8, from: usize, out: &mut [u8]) -> Content
     let mut i = from;
     // How far a turn goes is found in it, so a `for` over the places would be no plainer.
     while i < text.len() {
-        match Class::of(text[i]) {
-            Class::Word => {
-                out[len] = text[i];
-                len += 1;
-                i += 1;
-            }
-            Class::Effector => {
-                // the word goes on behind it
-                i += 1;
-            }
-            Class::Plus => {
-                let j = skip(text, i + 1);
-                if byte(text, j) == b'+' {
-                    return Content { len, end: i };
-                }
-                out[len] = b'+';
-                len += 1;
-                i = j;
-            }
-            _ => {
+        let class = Class::of(text[i]);
+        if class == Class::Word {
+            out[len] = text[i];
+            len += 1;
+            i += 1;
+        } else if class == Class::Effector {
+            // the word goes on behind it
+            i += 1;
+        } else if class == Class::Plus {
+            let j = skip(text, i + 1);
+            if byte(text, j) == b'+' {
                 return Content { len, end: i };
             }
+            out[len] = b'+';
+            len += 1;
+            i = j;
+        } else {
+            return Content { len, end: i };
         }
     }
     Content { len, end: i }
@@ -156,38 +152,18 @@ fn ampersand(text: &[u8], from: usize) -> AmpEnd
     }
 }
 
-// A byte that begins a token, and its class.
-#[derive(Clone, Copy)]
-struct Start {
-    at: usize,
-    class: Class,
-}
-
-// The first place from `from` on that holds neither a format effector nor a comment, if there is one before the end.
-fn begin(text: &[u8], from: usize) -> Result<Option<Start>, Refusal>
-    requires { length text.now ≤ most_text }
-    ensures { IsGap text.now from result }
+// The end of the comment that begins with the `/` at `place`.
+fn comment_end(text: &[u8], place: usize) -> Result<usize, Refusal>
+    requires { (length text.now ≤ most_text) × (get_or text.now place 0 ≡ byte "/") }
+    ensures { IsPassed text.now place result }
 {
-    let mut i = from;
-    // How far a turn goes is found in it, so a `for` over the places would be no plainer.
-    while i < text.len() {
-        match Class::of(text[i]) {
-            Class::Effector => i += 1,
-            Class::Slash => {
-                if byte(text, i + 1) != b'*' {
-                    return Err(Reason::NoToken.at(i as u32));
-                }
-                let Some(end) = comment(text, i + 2) else {
-                    return Err(Reason::Unclosed.at(i as u32));
-                };
-                i = end;
-            }
-            class => {
-                return Ok(Some(Start { at: i, class }));
-            }
-        }
+    if byte(text, place + 1) != b'*' {
+        return Err(Reason::NoToken.at(place as u32));
     }
-    Ok(None)
+    let Some(end) = comment(text, place + 2) else {
+        return Err(Reason::Unclosed.at(place as u32));
+    };
+    Ok(end)
 }
 
 // A place in the text that no token is in the midst of.
@@ -200,26 +176,18 @@ struct Cursor {
 #[derive(Clone, Copy)]
 struct Scanned {
     kind: Kind,
-    place: usize,
     len: usize,
     next: Cursor,
 }
 
-// A word at `place`, whose first byte is `first`; the others stand from `from` on.
-fn word_token(
-    text: &[u8],
-    place: usize,
-    first: u8,
-    from: usize,
-    out: &mut [u8],
-) -> Result<Scanned, Refusal>
-    requires { (length text.now ≤ most_text) × (place < from) × (from ≤ length text.now) × (length text.now < length out.old + from) }
-    ensures { IsScanned (run_at (in_word place (first ∷ [])) text.now from) text.now place out.new result }
+// A word whose first byte stands at `place`, the others from `from` on.
+fn word_token(text: &[u8], place: usize, from: usize, out: &mut [u8]) -> Result<Scanned, Reason>
+    requires { (place < from) × (from ≤ length text.now) × (length text.now < length out.old + from) }
+    ensures { IsScanned (run_at (in_word place (get_or text.now place 0 ∷ [])) text.now from) text.now place out.new result }
 {
-    let Content { len, end } = word(text, first, from, out);
+    let Content { len, end } = word(text, text[place], from, out);
     let scanned = Scanned {
         kind: Kind::Word,
-        place,
         len,
         next: Cursor { at: end },
     };
@@ -229,47 +197,45 @@ fn word_token(
     if len <= MOST_PREFIXED && out[1] == b'\'' {
         return Ok(scanned);
     }
-    Err(Reason::TooMany.at(place as u32))
+    Err(Reason::TooMany)
 }
 
-// A separator from `place` up to `end`.
-fn separator(kind: Kind, place: usize, end: usize) -> Scanned
-    ensures { result ≡ record { kind = kind; place = place; len = 0; next = record { at = end } } }
+// A separator up to `end`.
+fn separator(kind: Kind, end: usize) -> Scanned
+    ensures { result ≡ record { kind = kind; len = 0; next = record { at = end } } }
 {
     Scanned {
         kind,
-        place,
         len: 0,
         next: Cursor { at: end },
     }
 }
 
 // A word that begins with the `+` at `place`, or a `++`.
-fn plus_token(text: &[u8], place: usize, out: &mut [u8]) -> Result<Scanned, Refusal>
-    requires { (length text.now ≤ most_text) × (get_or text.now place 0 ≡ byte "+") × (length text.now ≤ length out.old + place) }
+fn plus_token(text: &[u8], place: usize, out: &mut [u8]) -> Result<Scanned, Reason>
+    requires { (get_or text.now place 0 ≡ byte "+") × (length text.now ≤ length out.old + place) }
     ensures { IsScanned (run_at idle text.now place) text.now place out.new result }
 {
     let j = skip(text, place + 1);
     if byte(text, j) == b'+' {
-        return Ok(separator(Kind::PlusPlus, place, j + 1));
+        return Ok(separator(Kind::PlusPlus, j + 1));
     }
-    word_token(text, place, b'+', j, out)
+    word_token(text, place, j, out)
 }
 
 // A string whose opening mark stands at `place`.
-fn string_token(text: &[u8], place: usize, out: &mut [u8]) -> Result<Scanned, Refusal>
-    requires { (length text.now ≤ most_text) × (get_or text.now place 0 ≡ byte "\"") × (length text.now ≤ length out.old + place) }
+fn string_token(text: &[u8], place: usize, out: &mut [u8]) -> Result<Scanned, Reason>
+    requires { (get_or text.now place 0 ≡ byte "\"") × (length text.now ≤ length out.old + place) }
     ensures { IsScanned (run_at idle text.now place) text.now place out.new result }
 {
     let Some(Content { len, end }) = string(text, place + 1, out) else {
-        return Err(Reason::Unclosed.at(place as u32));
+        return Err(Reason::Unclosed);
     };
     if MOST_STRING < len {
-        return Err(Reason::TooMany.at(place as u32));
+        return Err(Reason::TooMany);
     }
     Ok(Scanned {
         kind: Kind::String,
-        place,
         len,
         next: Cursor { at: end },
     })
@@ -281,38 +247,28 @@ fn amp_token(text: &[u8], place: usize) -> Scanned
     ensures { IsSep (run_at idle text.now place) text.now place result }
 {
     let AmpEnd { kind, end } = ampersand(text, place + 1);
-    separator(kind, place, end)
-}
-
-// The token that begins at `place` with a byte of class `class`, neither a format effector nor a `/`.
-fn token(text: &[u8], place: usize, class: Class, out: &mut [u8]) -> Result<Scanned, Refusal>
-    requires { (length text.now ≤ most_text) × Begins text.now place place (number class) × (length text.now ≤ length out.old + place) }
-    ensures { IsScanned (run_at idle text.now place) text.now place out.new result }
-{
-    match class {
-        Class::Word => word_token(text, place, text[place], place + 1, out),
-        Class::Dash => Ok(separator(Kind::Dash, place, place + 1)),
-        Class::Comma => Ok(separator(Kind::Comma, place, place + 1)),
-        Class::Colon => Ok(separator(Kind::Colon, place, place + 1)),
-        Class::Equals => Ok(separator(Kind::Equals, place, place + 1)),
-        Class::Semicolon => Ok(separator(Kind::Semicolon, place, place + 1)),
-        Class::Mark => string_token(text, place, out),
-        Class::Ampersand => Ok(amp_token(text, place)),
-        Class::Plus => plus_token(text, place, out),
-        _ => Err(Reason::NoToken.at(place as u32)),
-    }
+    separator(kind, end)
 }
 
 impl Cursor {
-    // The next token from the cursor on, its content at the start of `out`, if there is one before the end.
-    fn next(self, text: &[u8], out: &mut [u8]) -> Result<Option<Scanned>, Refusal>
-        requires { (length text.now ≤ most_text) × (length text.now ≤ length out.old + self.at) }
-        ensures { IsNext (run_at idle text.now self.at) text.now self.at out.new result }
+    // The token that begins at the cursor with a byte of class `class`, neither a format effector nor a `/`, its content at the start of `out`.
+    fn next(self, text: &[u8], class: Class, out: &mut [u8]) -> Result<Scanned, Reason>
+        requires { Begins text.now self.at (number class) × (length text.now ≤ length out.old + self.at) }
+        ensures { IsScanned (run_at idle text.now self.at) text.now self.at out.new result }
     {
-        let Some(Start { at, class }) = begin(text, self.at)? else {
-            return Ok(None);
-        };
-        Ok(Some(token(text, at, class, out)?))
+        let place = self.at;
+        match class {
+            Class::Word => word_token(text, place, place + 1, out),
+            Class::Dash => Ok(separator(Kind::Dash, place + 1)),
+            Class::Comma => Ok(separator(Kind::Comma, place + 1)),
+            Class::Colon => Ok(separator(Kind::Colon, place + 1)),
+            Class::Equals => Ok(separator(Kind::Equals, place + 1)),
+            Class::Semicolon => Ok(separator(Kind::Semicolon, place + 1)),
+            Class::Mark => string_token(text, place, out),
+            Class::Ampersand => Ok(amp_token(text, place)),
+            Class::Plus => plus_token(text, place, out),
+            _ => Err(Reason::NoToken),
+        }
     }
 }
 
@@ -328,14 +284,28 @@ fn fill(text: &[u8], toks: &mut [Token], contents: &mut [u8]) -> Result<Filled, 
     requires { (length text.now ≤ most_text) × (length text.now ≤ length toks.old) × (length text.now ≤ length contents.old) }
     ensures { IsFilled (run idle 0 text.now) toks.new contents.new result }
 {
-    let mut cursor = Cursor { at: 0 };
     let mut tokens: usize = 0;
     let mut bytes: usize = 0;
-    while let Some(t) = cursor.next(text, &mut contents[bytes..])? {
-        toks[tokens] = Token::new(t.kind, t.place, bytes, t.len);
-        tokens += 1;
-        bytes += t.len;
-        cursor = t.next;
+    let mut cursor = Cursor { at: 0 };
+    // How far a turn goes is found in it, so a `for` over the places would be no plainer.
+    while cursor.at < text.len() {
+        let at = cursor.at;
+        match Class::of(text[at]) {
+            Class::Effector => cursor = Cursor { at: at + 1 },
+            Class::Slash => {
+                let end = comment_end(text, at)?;
+                cursor = Cursor { at: end };
+            }
+            class => match cursor.next(text, class, &mut contents[bytes..]) {
+                Ok(t) => {
+                    toks[tokens] = Token::new(t.kind, at, bytes, t.len);
+                    tokens += 1;
+                    bytes += t.len;
+                    cursor = t.next;
+                }
+                Err(reason) => return Err(reason.at(at as u32)),
+            },
+        }
     }
     Ok(Filled { tokens, bytes })
 }

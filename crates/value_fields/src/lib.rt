@@ -129,7 +129,7 @@ fn put_unit(out: &mut [u8], toks: &[Token], contents: &[u8], base: u8, n: usize)
     let content = t.content(contents);
     match t.kind {
         Kind::Word => fields::put_unit(out, content, units::read_word(content, base)),
-        _ => fields::put_field(out, Tag::String, content),
+        _ => fields::put_field(out, Tag::String as u8, content),
     }
 }
 
@@ -158,7 +158,7 @@ fn put_range(out: &mut [u8], upper: u32, inc: u32)
     requires { 11 ≤ length out.old }
     ensures { out.new ≡ over (field_bytes (field 6 (four_bytes upper ++ four_bytes inc))) out.old }
 {
-    fields::put_header(out, Tag::Range, RANGE_CONTENT);
+    fields::put_header(out, Tag::Range as u8, RANGE_CONTENT);
     record_walk::put_number(&mut out[record_walk::UPPER..], upper);
     record_walk::put_number(&mut out[record_walk::INCREMENT..], inc);
 }
@@ -169,7 +169,7 @@ fn put_head(out: &mut [u8], x: Shape) -> usize
     ensures { (result ≡ length (head_bytes x)) × (out.new ≡ over (head_bytes x) out.old) }
 {
     match x {
-        Shape::Single { .. } => fields::put_field(out, Tag::Single, b""),
+        Shape::Single { .. } => fields::put_field(out, Tag::Single as u8, b""),
         Shape::Range { upper, inc, .. } => {
             put_range(out, upper, inc);
             record_walk::RANGE_FIELD
@@ -224,7 +224,7 @@ pub fn put_value(out: &mut [u8], toks: &[Token], contents: &[u8], base: u8) -> u
     ensures { PutValue toks.now contents.now base result out.old out.new }
 {
     if toks.len() == 1 {
-        let p = fields::put_field(out, Tag::Single, b"");
+        let p = fields::put_field(out, Tag::Single as u8, b"");
         return p + put_unit(&mut out[p..], toks, contents, base, 0);
     }
     put_elements(out, toks, contents, base)

@@ -1,7 +1,6 @@
 // Keys to the library's line keeper.
+use crate::output::Out;
 use console_figures::front;
-use console_lines::Hex;
-use console_window::Screen;
 use rules::{Keeper, MOST_TEXT};
 use std::fmt;
 use std::fmt::Write;
@@ -25,7 +24,7 @@ pub fn run(digits: &[u8]) -> fmt::Result {
     let mut keys = [0u8; MOST_KEYS];
     match console_figures::decode(digits, &mut keys) {
         Ok(n) => write_left(digits, press_all(front(&keys, n))),
-        Err(_) => Screen::OUT.write_str("no hexadecimal"),
+        Err(_) => Out.write_str("no hexadecimal"),
     }
 }
 
@@ -65,12 +64,16 @@ fn press(left: Left, key: u8) -> Left {
 
 // Writes the keys, the bytes held after them, whether these are ready, and how many keys were refused, if any were.
 fn write_left(digits: &[u8], left: Left) -> fmt::Result {
-    let mut out = Screen::OUT;
+    let mut out = Out;
     out.write_bytes(digits)?;
+    out.write_str(" -> ")?;
     let bytes = left.keeper.bytes;
-    let held = front(&bytes, left.keeper.count as usize);
-    let ready = if left.ready { "ready" } else { "not ready" };
-    write!(out, " -> {} | {ready}", Hex(held))?;
+    out.write_hex(front(&bytes, left.keeper.count as usize))?;
+    out.write_str(if left.ready {
+        " | ready"
+    } else {
+        " | not ready"
+    })?;
     match left.refused {
         0 => Ok(()),
         n => write!(out, " | refused: {n}"),

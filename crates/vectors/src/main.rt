@@ -9,14 +9,15 @@
 #![tactic(auto)]
 
 mod keys;
+mod output;
 mod questions;
 mod rows;
 
 ghost use Rattle.std.specs.Prelude.{◌≤◌, length};
 
 use console_figures::front;
-use console_lines::{Hex, Input};
-use console_window::Screen;
+use console_lines::Input;
+use output::Out;
 use rules::{Answer, MOST_PLACES, MOST_TEXT, Refusal};
 use std::fmt;
 use std::fmt::Write;
@@ -51,7 +52,7 @@ fn run(input: &mut Input, room: &mut [u8]) -> fmt::Result {
                 return Ok(());
             }
             Err(_) => {
-                return Screen::OUT.write_str("the input cannot be read\n");
+                return Out.write_str("the input cannot be read\n");
             }
         }
     }
@@ -72,7 +73,7 @@ fn run_line(line: &[u8]) -> fmt::Result {
         [b'/', asked @ ..] => rows::place(asked),
         _ => run_command(line, Asked::Record),
     }?;
-    Screen::OUT.write_str("\n")
+    Out.write_str("\n")
 }
 
 // The bytes before the first of these, and those behind it; all, and none, where it does not stand.
@@ -93,7 +94,7 @@ fn at_bar(line: &[u8]) -> (&[u8], &[u8]) {
 // Reads a command behind its bases and the bar, and writes what is asked for; or the refusal.
 fn run_command(line: &[u8], asked: Asked) -> fmt::Result {
     let (bases, text) = at_bar(line);
-    let mut out = Screen::OUT;
+    let mut out = Out;
     out.write_bytes(text)?;
     out.write_str(" -> ")?;
     let mut record = io::large_buffer();
@@ -114,17 +115,13 @@ fn write_asked(record: &[u8], asked: Asked) -> fmt::Result {
 
 // Writes the number and the place of a refusal.
 fn write_refusal(refusal: Refusal) -> fmt::Result {
-    write!(
-        Screen::OUT,
-        "{} at {}",
-        refusal.reason.number(),
-        refusal.place,
-    )
+    write!(Out, "{} at {}", refusal.reason.number(), refusal.place,)
 }
 
 // Writes a record, its text, its number of orders, and whether the text is read as this record.
 fn write_record(record: &[u8]) -> fmt::Result {
-    write!(Screen::OUT, "{} | ", Hex(record))?;
+    Out.write_hex(record)?;
+    Out.write_str(" | ")?;
     let mut text = [0u8; MOST_TEXT];
     match mml::print(record, &mut text) {
         Ok(n) => write_text(record, front(&text, n as usize)),
@@ -134,7 +131,7 @@ fn write_record(record: &[u8]) -> fmt::Result {
 
 // Writes a record's text and what follows it.
 fn write_text(record: &[u8], text: &[u8]) -> fmt::Result {
-    let mut out = Screen::OUT;
+    let mut out = Out;
     out.write_bytes(text)?;
     out.write_str(" | ")?;
     match mml::count(record) {
@@ -158,7 +155,7 @@ fn is_read_again(record: &[u8], text: &[u8]) -> bool {
 
 // Takes a record in hexadecimal, and writes what is asked for.
 fn run_record(digits: &[u8], asked: Asked) -> fmt::Result {
-    let mut out = Screen::OUT;
+    let mut out = Out;
     out.write_bytes(digits)?;
     out.write_str(" -> ")?;
     let mut record = io::large_buffer();
@@ -172,7 +169,7 @@ fn run_record(digits: &[u8], asked: Asked) -> fmt::Result {
 fn write_list(record: &[u8]) -> fmt::Result {
     let mut list = io::large_buffer();
     match mml::list(record, &mut list) {
-        Ok(n) => write!(Screen::OUT, "{}", Hex(front(&list, n as usize))),
+        Ok(n) => Out.write_hex(front(&list, n as usize)),
         Err(refusal) => write_refusal(refusal),
     }
 }
@@ -181,7 +178,7 @@ fn write_list(record: &[u8]) -> fmt::Result {
 fn write_orders(record: &[u8]) -> fmt::Result {
     match mml::count(record) {
         Ok(n) => {
-            write!(Screen::OUT, "{n} orders")?;
+            write!(Out, "{n} orders")?;
             write_some(record, u64::from(n))?;
             write_order(record, u64::from(n))
         }
@@ -203,7 +200,7 @@ fn write_some(record: &[u8], count: u64) -> fmt::Result {
 
 // Writes the text of order k.
 fn write_order(record: &[u8], k: u64) -> fmt::Result {
-    let mut out = Screen::OUT;
+    let mut out = Out;
     out.write_str(" | ")?;
     let mut order = io::large_buffer();
     let mut text = [0u8; MOST_TEXT];

@@ -1,6 +1,6 @@
 // Questions whether an argument stands in a place of a record.
+use crate::output::Out;
 use console_figures::front;
-use console_window::Screen;
 use std::fmt;
 use std::fmt::Write;
 
@@ -9,7 +9,7 @@ const MOST_BYTES: usize = 512;
 
 // Asks `PLACE|ARGUMENT|BASES|COMMAND` or `PLACE|ARGUMENT|#RECORD`, and writes the line and the answer.
 pub fn run(line: &[u8]) -> fmt::Result {
-    let mut out = Screen::OUT;
+    let mut out = Out;
     out.write_bytes(line)?;
     out.write_str(" -> ")?;
     let (place, rest) = crate::at_bar(line);
@@ -25,7 +25,7 @@ fn ask_record(digits: &[u8], place: &[u8], argument: &[u8]) -> fmt::Result {
     let mut record = io::large_buffer();
     match console_figures::decode(digits, &mut record) {
         Ok(n) => ask(front(&record, n), place, argument),
-        Err(_) => Screen::OUT.write_str("no hexadecimal"),
+        Err(_) => Out.write_str("no hexadecimal"),
     }
 }
 
@@ -43,18 +43,18 @@ fn ask_command(command: &[u8], place: &[u8], argument: &[u8]) -> fmt::Result {
 fn ask(record: &[u8], place: &[u8], argument: &[u8]) -> fmt::Result {
     let mut room = [0u8; MOST_BYTES];
     let Ok(n) = console_figures::decode(argument, &mut room) else {
-        return Screen::OUT.write_str("no hexadecimal");
+        return Out.write_str("no hexadecimal");
     };
     match console_figures::decimal(place) {
         Some(place) => ask_in(record, place, front(&room, n)),
-        None => Screen::OUT.write_str("no number"),
+        None => Out.write_str("no number"),
     }
 }
 
 // Asks for the argument in the place with this number, and writes the answer.
 fn ask_in(record: &[u8], place: u64, argument: &[u8]) -> fmt::Result {
     let Ok(place) = u32::try_from(place) else {
-        return Screen::OUT.write_str("no number of 32 bits");
+        return Out.write_str("no number of 32 bits");
     };
     match mml::member(record, place, argument) {
         Ok(value) => write_found(console_figures::found(value)),
@@ -65,7 +65,7 @@ fn ask_in(record: &[u8], place: u64, argument: &[u8]) -> fmt::Result {
 // Writes that the argument does not stand there, or its position.
 fn write_found(position: Option<u32>) -> fmt::Result {
     match position {
-        None => Screen::OUT.write_str("no"),
-        Some(position) => write!(Screen::OUT, "yes at {position}"),
+        None => Out.write_str("no"),
+        Some(position) => write!(Out, "yes at {position}"),
     }
 }

@@ -1,7 +1,6 @@
 // Rows of offsets: the reader and the order writer fill one, and a place is asked for by one.
+use crate::output::Out;
 use console_figures::front;
-use console_lines::Hex;
-use console_window::Screen;
 use rules::Answer;
 use std::fmt;
 use std::fmt::Write;
@@ -45,8 +44,8 @@ fn lend<F: FnOnce(&[u8], &mut [u8], &mut [u32]) -> fmt::Result>(line: &[u8], fil
 
 // Writes the line that is asked.
 fn write_line(line: &[u8]) -> fmt::Result {
-    Screen::OUT.write_bytes(line)?;
-    Screen::OUT.write_str(" -> ")
+    Out.write_bytes(line)?;
+    Out.write_str(" -> ")
 }
 
 // Puts the numbers of a row, with a blank between each two, into `row`, as many as fit, and answers how many.
@@ -92,9 +91,11 @@ fn fill_order(asked: &[u8], out: &mut [u8], row: &mut [u32]) -> fmt::Result {
 // Writes the answer, every byte of the buffer and every slot of the row.
 fn write_filled(answer: Answer, out: &[u8], row: &[u32]) -> fmt::Result {
     write_answer(answer)?;
-    write!(Screen::OUT, " | {} |", Hex(out))?;
+    Out.write_str(" | ")?;
+    Out.write_hex(out)?;
+    Out.write_str(" |")?;
     for slot in row {
-        write!(Screen::OUT, " {slot}")?;
+        write!(Out, " {slot}")?;
     }
     Ok(())
 }
@@ -112,7 +113,7 @@ fn put_record(asked: &[u8], record: &mut [u8]) -> usize {
 // Writes how many bytes were answered, or the refusal.
 fn write_answer(answer: Answer) -> fmt::Result {
     match answer {
-        Ok(n) => write!(Screen::OUT, "{n} bytes"),
+        Ok(n) => write!(Out, "{n} bytes"),
         Err(refusal) => crate::write_refusal(refusal),
     }
 }
@@ -140,5 +141,6 @@ fn ask(record: &[u8], row: &[u32], place: u32) -> fmt::Result {
     if part.is_empty() {
         return Ok(());
     }
-    write!(Screen::OUT, " | {}", Hex(part))
+    Out.write_str(" | ")?;
+    Out.write_hex(part)
 }

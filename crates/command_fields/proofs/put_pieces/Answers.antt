@@ -6,7 +6,6 @@ use Prim.Native.Nat.{◌+◌}
 use lib.ListN.{length}
 use borrow.Author.Rules.{rules}
 use Rattle.rules.specs.Records.{field, field_bytes}
-use Rattle.record_walk.specs.Tags.{number}
 use Rattle.laws.specs.Over.{over, part}
 use Rattle.token_table.specs.Table.{content_in}
 use Rattle.token_table.specs.Parts.{words_in}
@@ -20,7 +19,7 @@ put_field-k-requires c =
     let s = c.in-Some.ensures.steps in
     let w = words_more c.args.contents.now c.loop-t.t-iterator.iter c.next.new.self.iter c.loop-t.t-iterator.first c.loop-t.t-iterator.gap c.in-Some.t s.2.0 s.2.1 h.every_other s.2.2 s.2.3 s.2.4 in
     let r =
-    piecing_room (number c.args.tag) (words_in true c.args.contents.now c.args.toks.now) (words_in c.loop-t.t-iterator.first c.args.contents.now c.loop-t.t-iterator.iter.rest.now)
+    piecing_room c.args.tag (words_in true c.args.contents.now c.args.toks.now) (words_in c.loop-t.t-iterator.first c.args.contents.now c.loop-t.t-iterator.iter.rest.now)
     c.args.out.now c.loop-t.k c.loop-t.out h.so_far (content_in c.args.contents.now c.in-Some.t.now) _ w c.requires in
     (c.content.ensures.small, omega (arith, r, ap length c.content.ensures.value))
 
@@ -34,10 +33,10 @@ loop-t-preserved c =
       every_other = omega (arith, s.0);
       so_far =
           rw s.1
-          (piecing_more (number c.args.tag) (words_in true c.args.contents.now c.args.toks.now) (words_in c.loop-t.t-iterator.first c.args.contents.now c.loop-t.t-iterator.iter.rest.now)
+          (piecing_more c.args.tag (words_in true c.args.contents.now c.args.toks.now) (words_in c.loop-t.t-iterator.first c.args.contents.now c.loop-t.t-iterator.iter.rest.now)
           c.args.out.now c.loop-t.k c.loop-t.out h.so_far (content_in c.args.contents.now c.in-Some.t.now) _ w
           (c.put_field-k.ensures.0 ∙ ap (λ x. 3 + length x) v)
-          (c.put_field-k.ensures.1 ∙ ap (λ x. over (field_bytes (field (number c.args.tag) x)) (part c.loop-t.out c.loop-t.k)) v));
+          (c.put_field-k.ensures.1 ∙ ap (λ x. over (field_bytes (field c.args.tag x)) (part c.loop-t.out c.loop-t.k)) v));
     }
 
 pub returns : goal.returns

@@ -1,7 +1,7 @@
 -- `times` meets its contract: an omitted place counts one.
-use mathlib.Core.Path.{refl}
-use Rattle.judge.proofs.PlacesLaws.{counted_most}
+use borrow.Author.Rules.{rules}
+use Rattle.judge.proofs.PlacesLaws.{times_are}
 use Rattle.judge.proofs.times.Goals as goal
 
 pub returns : goal.returns
-returns c = rw (c.then_some.ensures, c.max.ensures, counted_most) refl
+returns c = search (rules, times_are)

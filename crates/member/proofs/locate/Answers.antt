@@ -13,4 +13,4 @@ pub returns-then-stands : goal.returns-then-stands
 returns-then-stands c = search (rules, row_found)
 
 pub returns : goal.returns
-returns c = rw c.at.ensures (search (rules, row_wrong))
+returns c = search (rules, row_wrong)

@@ -19,7 +19,7 @@ pub bounds-row-i : goal.bounds-row-i
 bounds-row-i c = search (rules, member_room, c.in_ok-judged.ensures)
 
 pub returns-then-row-i-eq0 : goal.returns-then-row-i-eq0
-returns-then-row-i-eq0 c = rw c.at-then-row-i-eq0.ensures (search (rules, member_omitted, c.in_ok-judged.ensures))
+returns-then-row-i-eq0 c = search (rules, member_omitted, c.in_ok-judged.ensures)
 
 pub overflow_mul-told : goal.overflow_mul-told
 overflow_mul-told c = search (rules, judged_count, c.in_ok-judged.ensures)

@@ -20,9 +20,11 @@ put_u8-behind-requires g c =
 pub put_digits-requires : goal.put_digits-requires
 put_digits-requires g c =
     let a = c.args in let e = part_is a.k a.base a.n c.before_stop.ensures in
-    (omega arith, omega arith, three_third (whole a.base c.before_stop.result) (byte "." ∷ []) (fixed a.k a.base a.n) (rw e at c.requires.3) c.put_whole-stop.ensures c.put_u8-behind.ensures)
+    let left = three_third (whole a.base c.before_stop.result) (byte "." ∷ []) (fixed a.k a.base a.n) (rw e at c.requires.3) c.put_whole-stop.ensures c.put_u8-behind.ensures in
+    (omega arith, omega arith, record { room = omega (arith, left.room, c.put_u8-behind.ensures.end) })
 
 pub returns : goal.returns
 returns g c =
     let a = c.args in let e = part_is a.k a.base a.n c.before_stop.ensures in
-    rw e (three_put (whole a.base c.before_stop.result) (byte "." ∷ []) (fixed a.k a.base a.n) (rw e at c.requires.3) c.put_whole-stop.ensures c.put_u8-behind.ensures c.put_digits.ensures)
+    let put = three_put (whole a.base c.before_stop.result) (byte "." ∷ []) (fixed a.k a.base a.n) (rw e at c.requires.3) c.put_whole-stop.ensures c.put_u8-behind.ensures c.put_digits.ensures in
+    rw e (record { end = omega (arith, put.end); is = put.is })

@@ -4,8 +4,8 @@ use Prim.Native.Nat.{◌-◌}
 use Rattle.scan.proofs.FillLaws.{Filling}
 use Rattle.scan.proofs.fill.Given as goal
 
-abbrev pub invariant-loop-t : goal.invariant-loop-t
-invariant-loop-t l = Filling l.text l.initial.toks l.initial.contents l.toks l.contents l.cursor.at l.tokens l.bytes
+abbrev pub invariant-loop-cursor : goal.invariant-loop-cursor
+invariant-loop-cursor l = Filling l.text l.initial.toks l.initial.contents l.toks l.contents l.cursor.at l.tokens l.bytes
 
-abbrev pub decreases-loop-t : goal.decreases-loop-t
-decreases-loop-t l = length l.text - l.cursor.at
+abbrev pub decreases-loop-cursor : goal.decreases-loop-cursor
+decreases-loop-cursor l = length l.text - l.cursor.at
